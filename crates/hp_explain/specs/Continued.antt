@@ -1,14 +1,15 @@
--- From equivalent places, the same continuations are explained, as the laws of an aim require.
-use Rattle.std.proofs.Common.{◌≡◌, ℕ, zero, suc, ◌<◌, ◌≤◌, List, [], ◌∷◌, ◌++◌, length, Some, slice_get, refl, ap, sym, subst, ◌∙◌, arith, inl, inr}
-use Rattle.std.specs.Prelude.{◌⊎◌}
+-- The same continuations are explained from equivalent places, as the laws of an aim require.
+use Rattle.std.proofs.Common.{◌≡◌, ℕ, zero, suc, ◌<◌, ◌≤◌, List, [], ◌∷◌, ◌++◌, length, map, Option, None, Some, slice_get, refl, ap, sym, subst, ◌∙◌, arith, inl, inr}
+use Rattle.std.specs.Prelude.{◌⊎◌, option_map}
 use Rattle.std.proofs.lemmas.Bool.{cases_lt}
 use Rattle.std.proofs.lemmas.List.{append_assoc, length-append, length-map}
 use Rattle.std.proofs.lemmas.Option.{same_Some, slice_get_past}
 use Rattle.hp_units.specs.declared.replies.Record.{Record}
 use Rattle.hp_schedules.specs.Causes.{AnswerAlike}
-use Rattle.hp_schedules.specs.Continuing.{ContinuesAs}
+use Rattle.hp_units.specs.declared.events.Event.{Event}
+use Rattle.hp_schedules.specs.Continuing.{ContinuesAs, anonymous, anonymous_record}
 use Rattle.hp_schedules.specs.LineAnswers.{answers_at}
-use Rattle.hp_schedules.specs.Schedules.{Setting, plays, schedule_of}
+use Rattle.hp_schedules.specs.Schedules.{Setting, next_call, plays, schedule_of}
 use Rattle.hp_schedules.proofs.Continuing.{continues_as}
 use Rattle.hp_explore.specs.Aims.{HaveSameKey, IsLawful, IsNarrower}
 use Rattle.hp_explore.specs.CausesBelow.{answered_alike}
@@ -18,17 +19,18 @@ use Rattle.hp_explain.specs.declared.observed.ObservedLine.{ObservedLine}
 
 -- ---- answers after the same further records
 
-answers_marked : (g : Setting) (h k more : List Record) (marks : List ℕ) → HaveSameKey g h k
-    → IsMarked g h marks → IsMarked g k marks → (cpu : ℕ) → AnswerAlike g cpu h k more
-answers_marked g h k more marks same a b =
+answers_marked : (g : Setting) (h k more others : List Record) (marks : List ℕ) → HaveSameKey g h k
+    → map anonymous_record more ≡ map anonymous_record others → IsMarked g h marks → IsMarked g k marks
+    → (cpu : ℕ) → AnswerAlike g cpu h k more others
+answers_marked g h k more others marks same are a b =
     let whole : length h ∷ a.0 ≡ length k ∷ b.0 = sym a.1 ∙ b.1 in
     let causes : a.0 ≡ b.0 = cc in
-    answered_alike g h k more a.0 b.0 causes same a.2 b.2
+    answered_alike g h k more others a.0 b.0 causes same are a.2 b.2
 
--- then equally many lines are finished after both
-many_alike : (g : Setting) (cpu : ℕ) (h k more : List Record) → AnswerAlike g cpu h k more
-    → length (answers_at g cpu (h ++ more)) ≡ length (answers_at g cpu (k ++ more))
-many_alike g cpu h k more alike =
+-- a processor has finished equally many lines after the further records at both places
+many_alike : (g : Setting) (cpu : ℕ) (h k more others : List Record) → AnswerAlike g cpu h k more others
+    → length (answers_at g cpu (h ++ more)) ≡ length (answers_at g cpu (k ++ others))
+many_alike g cpu h k more others alike =
     omega (
       arith,
       alike.many,
@@ -40,7 +42,7 @@ many_alike g cpu h k more alike =
 
 -- ---- items of lists with the same end
 
--- an item of `ys ++ zs` is one of `ys`, or has the same index in `xs ++ zs`
+-- an item of `ys ++ zs` either is in `ys`, or has the same index in `xs ++ zs`
 item_alike : {T : Type 0} (xs ys zs : List T) (i : ℕ) (x : T) → length xs ≡ length ys
     → slice_get (ys ++ zs) i ≡ Some x → (slice_get ys i ≡ Some x) ⊎ (slice_get (xs ++ zs) i ≡ Some x)
 item_alike [] [] zs i x long is = inr is
@@ -49,7 +51,8 @@ item_alike (a ∷ xs) [] zs i x long is = absurd (omega (arith, long))
 item_alike (a ∷ xs) (b ∷ ys) zs zero x long is = inl is
 item_alike (a ∷ xs) (b ∷ ys) zs (suc i) x long is = item_alike xs ys zs i x (omega (arith, long)) is
 
--- in a joined list, an item is in the first part, or in the second with the whole first part before it
+-- an item of a joined list is either in the first part, or in the second part with the whole first part
+-- before it
 pub split_in : {T : Type 0} (k more before later : List T) (r : T) → k ++ more ≡ before ++ r ∷ later
     → ((rest : List T) × (k ≡ before ++ r ∷ rest))
     ⊎ ((mid : List T) × (before ≡ k ++ mid) × (more ≡ mid ++ r ∷ later))
@@ -68,12 +71,12 @@ split_in {T} (x ∷ k) more (y ∷ before) later r is =
     by_place first (inl within) = inl (within.0, cc)
     by_place first (inr past) = inr (past.0, cc, past.2)
 
--- ---- explained from equivalent places
+-- ---- continuations explained from equivalent places
 
-seen_alike : (g : Setting) (seen : List (List ObservedLine)) (h k more : List Record)
-    → ((cpu : ℕ) → AnswerAlike g cpu h k more) → AreAsSeen g seen k → AreAsSeen g seen (h ++ more)
-    → AreAsSeen g seen (k ++ more)
-seen_alike g seen h k more alike here there cpu line answer is =
+seen_alike : (g : Setting) (seen : List (List ObservedLine)) (h k more others : List Record)
+    → ((cpu : ℕ) → AnswerAlike g cpu h k more others) → AreAsSeen g seen k → AreAsSeen g seen (h ++ more)
+    → AreAsSeen g seen (k ++ others)
+seen_alike g seen h k more others alike here there cpu line answer is =
     by_place
     (item_alike (answers_at g cpu h) (answers_at g cpu k) (alike cpu).later line answer (alike cpu).many
     (rw (← (alike cpu).second) is))
@@ -92,22 +95,66 @@ run_alike g seen h k cpu many runs lines one here line c others there =
     (runs lines one here
     (subst (λ (n : ℕ). slice_get lines n ≡ Some one) (sym (many cpu)) line) c others there)
 
-timed_alike : (g : Setting) (seen : List (List ObservedLine)) (h k more : List Record)
-    → ((mid : List Record) (cpu : ℕ) → AnswerAlike g cpu h k mid) → AreInTime g seen k
-    → AreInTime g seen (h ++ more) → AreInTime g seen (k ++ more)
-timed_alike g seen h k more alike here there before r later is =
-    by_place (split_in k more before later r is)
+-- two lists of records are equal but for the operations. The first has a record by the same processor
+-- at the index that `r` has in the second
+record IsSplitAlike (more before : List Record) (r : Record) : Type 0 where
+  pub mid : List Record
+  pub other : Record
+  pub later : List Record
+  pub more_is : more ≡ mid ++ other ∷ later
+  pub same : map anonymous_record mid ≡ map anonymous_record before
+  pub cpu : other.cpu ≡ r.cpu
+
+split_alike : (more before : List Record) (r : Record) (later : List Record)
+    → map anonymous_record more ≡ map anonymous_record (before ++ r ∷ later) → IsSplitAlike more before r
+split_alike [] [] r later same = absurd cc
+split_alike [] (y ∷ before) r later same = absurd cc
+split_alike (x ∷ more) [] r later same =
+    let first : anonymous_record x ≡ anonymous_record r = cc in
+    record {
+      mid = [];
+      other = x;
+      later = more;
+      more_is = refl;
+      same = refl;
+      cpu = ap (λ (q : Record). q.cpu) first;
+    }
+split_alike (x ∷ more) (y ∷ before) r later same =
+    let first : anonymous_record x ≡ anonymous_record y = cc in
+    let rest : map anonymous_record more ≡ map anonymous_record (before ++ r ∷ later) = cc in
+    let split = split_alike more before r later rest in
+    record {
+      mid = x ∷ split.mid;
+      other = split.other;
+      later = split.later;
+      more_is = ap (λ (xs : List Record). x ∷ xs) split.more_is;
+      same =
+          ap (λ (q : Record). q ∷ map anonymous_record split.mid) first
+          ∙ ap (λ (qs : List Record). anonymous_record y ∷ qs) split.same;
+      cpu = split.cpu;
+    }
+
+timed_alike : (g : Setting) (seen : List (List ObservedLine)) (h k more others : List Record)
+    → map anonymous_record more ≡ map anonymous_record others
+    → ((mid other : List Record) → map anonymous_record mid ≡ map anonymous_record other → (cpu : ℕ)
+    → AnswerAlike g cpu h k mid other)
+    → AreInTime g seen k → AreInTime g seen (h ++ more) → AreInTime g seen (k ++ others)
+timed_alike g seen h k more others same alike here there before r later is =
+    by_place (split_in k others before later r is)
   where
     by_place : ((rest : List Record) × (k ≡ before ++ r ∷ rest))
-        ⊎ ((mid : List Record) × (before ≡ k ++ mid) × (more ≡ mid ++ r ∷ later))
+        ⊎ ((mid : List Record) × (before ≡ k ++ mid) × (others ≡ mid ++ r ∷ later))
         → MayRun g seen before r.cpu
     by_place (inl within) = here before r within.0 within.1
     by_place (inr past) =
+        let split = split_alike more past.0 r later (same ∙ ap (map anonymous_record) past.2) in
         subst (λ (news : List Record). MayRun g seen news r.cpu) (sym past.1)
-        (run_alike g seen (h ++ past.0) (k ++ past.0) r.cpu
-        (λ c. many_alike g c h k past.0 (alike past.0 c))
-        (there (h ++ past.0) r later
-        (ap (λ (xs : List Record). h ++ xs) past.2 ∙ sym (append_assoc h past.0 (r ∷ later)))))
+        (run_alike g seen (h ++ split.mid) (k ++ past.0) r.cpu
+        (λ c. many_alike g c h k split.mid past.0 (alike split.mid past.0 split.same c))
+        (subst (MayRun g seen (h ++ split.mid)) split.cpu
+        (there (h ++ split.mid) split.other split.later
+        (ap (λ (xs : List Record). h ++ xs) split.more_is
+        ∙ sym (append_assoc h split.mid (split.other ∷ split.later))))))
 
 -- the records of an explained beginning have the answers that were seen, and each of its calls was made
 -- in time
@@ -120,7 +167,7 @@ explained_news g seen schedule news played explained =
       subst (AreInTime g seen) same explained.timed,
     )
 
--- from two places with the same key, a continuation leads to equally many calls
+-- a continuation of two places with the same key leads to equally many calls
 as_long : (g : Setting) (h k : List Record) (rest : List ℕ) → HaveSameKey g h k
     → length (schedule_of h ++ rest) ≡ length (schedule_of k ++ rest)
 as_long g h k rest same =
@@ -130,17 +177,17 @@ as_long g h k rest same =
       length-append (schedule_of k) rest,
       length-map h (λ (r : Record). r.cpu),
       length-map k (λ (r : Record). r.cpu),
-      same.alike.calls,
+      same.alike.same.calls,
     )
 
--- the continuation that is explained from `h` leads from `k` to the same further records, and is
+-- the continuation that is explained from `h` leads from `k` to the same further records, and it is
 -- explained there too
 record IsExplainedOn (g : Setting) (seen : List (List ObservedLine)) (rest : List ℕ) (h k : List Record)
     (end : List Record) : Type 0 where
   pub on : ContinuesAs g (schedule_of k) rest h k end
   pub few : length (schedule_of k ++ rest) ≤ calls_left g
-  pub answered : AreAsSeen g seen (k ++ on.more)
-  pub timed : AreInTime g seen (k ++ on.more)
+  pub answered : AreAsSeen g seen (k ++ on.others)
+  pub timed : AreInTime g seen (k ++ on.others)
 
 explained_on : (g : Setting) (seen : List (List ObservedLine)) (h k : List Record) (marks rest : List ℕ)
     → HaveSameKey g h k → IsMarked g h marks → IsMarked g k marks
@@ -150,10 +197,12 @@ explained_on g seen h k marks rest same a b here e = record {
   on = on;
   few = omega (arith, e.few, as_long g h k rest same);
   answered =
-      seen_alike g seen h k on.more (answers_marked g h k on.more marks same a b) own.0
+      seen_alike g seen h k on.more on.others
+      (answers_marked g h k on.more on.others marks same on.same a b) own.0
       (subst (AreAsSeen g seen) on.end_is e.answered);
   timed =
-      timed_alike g seen h k on.more (λ mid. answers_marked g h k mid marks same a b) own.1
+      timed_alike g seen h k on.more on.others on.same
+      (λ mid other are. answers_marked g h k mid other marks same are a b) own.1
       (subst (AreInTime g seen) on.end_is e.timed);
 }
   where
@@ -168,14 +217,14 @@ explained_on g seen h k marks rest same a b here e = record {
 explained_alike : (g : Setting) (seen : List (List ObservedLine)) (h k : List Record) (rest : List ℕ)
     (end : List Record) → IsExplainedOn g seen rest h k end → IsExplained g seen (schedule_of k ++ rest)
 explained_alike g seen h k rest end is = record {
-  news = k ++ is.on.more;
+  news = k ++ is.on.others;
   played = is.on.played;
   few = is.few;
   answered = is.answered;
   timed = is.timed;
 }
 
--- ---- the laws
+-- ---- the laws of the aim
 
 sought_alike : (g : Setting) (seen : List (List ObservedLine)) (room : ℕ) (longest : List ℕ)
     (h k : List Record) (marks rest : List ℕ)
@@ -187,8 +236,14 @@ sought_alike g seen room longest h k marks rest same a b here (inl order) =
     let is = explained_on g seen h k marks rest same a b here order.begun in
     inl (record {
       begun = explained_alike g seen h k rest order.begun.news is;
-      over = λ cpu. sym (is.on.calls cpu) ∙ order.over cpu;
+      over = λ cpu. over (next_call g cpu order.begun.news) (next_call g cpu (k ++ is.on.others))
+          (is.on.calls cpu) (order.over cpu);
     })
+  where
+    over : (o u : Option Event) → option_map anonymous o ≡ option_map anonymous u → o ≡ None → u ≡ None
+    over None None calls none = refl
+    over None (Some e) calls none = absurd cc
+    over (Some e) u calls none = absurd cc
 sought_alike g seen room longest h k marks rest same a b here (inr longer) = inr (
   explained_alike g seen h k rest longer.0.news (explained_on g seen h k marks rest same a b here longer.0),
   omega (arith, longer.1, as_long g h k rest same),
@@ -210,7 +265,7 @@ explaining_lawful g seen room longest = record {
       sought_alike g seen room longest h k marks rest same a b second.0 sought;
 }
 
--- ---- how the aim gets narrower
+-- ---- narrower aims
 
 sought_narrower : (g : Setting) (seen : List (List ObservedLine)) (room : ℕ) (longest new s : List ℕ)
     → length longest ≤ length new → (aim_of g seen room new).sought s → (aim_of g seen room longest).sought s

@@ -6,7 +6,7 @@ use Rattle.hp_units.specs.declared.events.Event.{Event}
 use Rattle.hp_units.specs.declared.replies.Record.{Record}
 use Rattle.hp_schedules.specs.LineAnswers.{answers_at}
 use Rattle.hp_schedules.specs.Schedules.{Setting, next_call, play_one, plays, record_of_call, schedule_of}
-use Rattle.hp_schedules.proofs.Continuing.{event_kept}
+use Rattle.hp_schedules.proofs.SameCalls.{event_kept}
 use Rattle.hp_schedules.proofs.Plays.{asks_within, plays_on}
 use Rattle.hp_explore.proofs.Framing.{longer_schedule}
 

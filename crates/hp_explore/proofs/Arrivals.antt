@@ -5,12 +5,14 @@ use Rattle.hp_units.specs.declared.events.Event.{Event}
 use Rattle.hp_units.specs.declared.replies.Record.{Record}
 use Rattle.hp_schedules.specs.Alike.{AreMergeable, leaves_steps}
 use Rattle.hp_schedules.specs.Schedules.{Setting, next_call, plays, record_of_call, schedule_of}
-use Rattle.hp_schedules.proofs.Continuing.{call_leaves, event_kept}
+use Rattle.hp_schedules.proofs.SameCalls.{call_leaves, event_kept}
 use Rattle.hp_states.specs.Rooms.{is_full_after}
 use Rattle.hp_states.specs.Stops.{KeepStops}
 use Rattle.hp_explore.specs.Aims.{AimValue, IsDone, IsLawful, MayBeSkipped}
 use Rattle.hp_explore.specs.Paths.{IsForth, PathValue}
 use Rattle.hp_explore.specs.Searches.{HasArrived, IsArriving, IsCloser, IsSearching, IsTurned, SearchValue, search_at}
+use Rattle.hp_schedules.specs.Cursors.{AreCursors}
+use Rattle.hp_schedules.specs.declared.cursors.Cursor.{Cursor}
 use Rattle.hp_explore.specs.Visited.{AreFollowed, AreVisited, IsLookedUp}
 use Rattle.hp_explore.specs.declared.searching.Turn.{Turn}
 use Rattle.hp_explore.specs.declared.searching.Turn.TheVariants.{New}
@@ -53,15 +55,19 @@ turn_over aim p q s t next visited v lawful is less here played forth same =
 -- ---- the call that was made
 
 -- is followed by the visited places
-followed : (p : PathValue) (cpu : ℕ) (event : Event) (latest : Record) (old new : Visited)
+followed : (p : PathValue) (cpu : ℕ) (event : Event) (latest : Record) (cursors : List Cursor)
+    (old new : Visited)
     → next_call p.setting cpu p.news ≡ Some event → latest ≡ record_of_call p.setting p.news cpu event
     → (old.is_on ≡ true → AreMergeable p.setting.scripts) → AreFollowed p.setting p.news old
+    → AreCursors p.setting (p.news ++ record_of_call p.setting p.news cpu event ∷ []) cursors
     → ((g : Setting) (news : List Record) → AreFollowed g news old
     → (old.is_on ≡ true → leaves_steps (effect_of latest.event) ≡ true)
-    → AreFollowed g (news ++ latest ∷ []) new)
+    → AreCursors g (news ++ latest ∷ []) cursors → AreFollowed g (news ++ latest ∷ []) new)
     → AreFollowed p.setting (p.news ++ record_of_call p.setting p.news cpu event ∷ []) new
-followed p cpu event latest old new asked is mergeable way on =
-    subst (λ (r : Record). AreFollowed p.setting (p.news ++ r ∷ []) new) is (on p.setting p.news way leaves)
+followed p cpu event latest cursors old new asked is mergeable way at on =
+    subst (λ (r : Record). AreFollowed p.setting (p.news ++ r ∷ []) new) is
+    (on p.setting p.news way leaves
+    (subst (λ (r : Record). AreCursors p.setting (p.news ++ r ∷ []) cursors) (sym is) at))
   where
     leaves : old.is_on ≡ true → leaves_steps (effect_of latest.event) ≡ true
     leaves set =
@@ -71,25 +77,28 @@ followed p cpu event latest old new asked is mergeable way on =
 
 -- and leads to a place
 pub comes_to : (aim : AimValue) (p q : PathValue) (s t : List ℕ) (next : ℕ) (latest : Record)
-    (old new : Visited) (v : SearchValue)
+    (cursors : List Cursor) (old new : Visited) (v : SearchValue)
     → search_at p s next old ≡ v → IsSearching aim v
     → plays p.setting (schedule_of p.news) ≡ Some p.news → IsForth p next true q
     → t ≡ s ++ next ∷ [] → aim.tries s next
     → ((before : List Record) (r : Record) → q.news ≡ before ++ r ∷ [] → latest ≡ r)
+    → AreCursors q.setting q.news cursors
     → new.is_on ≡ old.is_on → new.keys ≡ old.keys → KeepStops old.stops new.stops
     → ((g : Setting) (news : List Record) → AreFollowed g news old
     → (old.is_on ≡ true → leaves_steps (effect_of latest.event) ≡ true)
-    → AreFollowed g (news ++ latest ∷ []) new)
+    → AreCursors g (news ++ latest ∷ []) cursors → AreFollowed g (news ++ latest ∷ []) new)
     → IsArriving aim (search_at q t next new)
-comes_to aim p q s t next latest old new v is here played forth longer tried last on keys keep way =
+comes_to aim p q s t next latest cursors old new v is here played forth longer tried last at on keys keep
+    way =
     subst (λ (r : PathValue). IsArriving aim (search_at r t next new)) (sym forth.3)
     (subst (λ (u : List ℕ). IsArriving aim (search_at (path_of p.setting
     (p.news ++ record_of_call p.setting p.news next forth.0 ∷ [])) u next new)) (sym longer)
     (arriving aim (search_at p s next old) forth.0 new next played there forth.2 tried
     (stops_kept p.setting aim s old new on keys keep there.visited)
-    (followed p next forth.0 latest old new forth.1
+    (followed p next forth.0 latest cursors old new forth.1
     (last p.news (record_of_call p.setting p.news next forth.0) (ap (λ (x : PathValue). x.news) forth.3))
-    there.visited.mergeable there.way way)))
+    there.visited.mergeable there.way
+    (subst (λ (x : PathValue). AreCursors x.setting x.news cursors) forth.3 at) way)))
   where
     there : IsSearching aim (search_at p s next old)
     there = subst (IsSearching aim) (sym is) here

@@ -1,60 +1,68 @@
 -- Places with one key go on alike, so what is done from the one is done from the other.
-use Rattle.std.proofs.Common.{◌≡◌, ℕ, zero, suc, ◌+◌, ◌<◌, ◌≤◌, List, [], ◌∷◌, ◌++◌, length, Some, refl, ap, sym, subst, ◌∙◌, arith, inl, inr}
-use Rattle.std.specs.Prelude.{◌⊎◌, ◌||◌, nat_le}
-use Rattle.std.proofs.lemmas.Bool.{cases_lt}
+use Rattle.std.proofs.Common.{◌≡◌, ℕ, suc, ◌+◌, List, [], ◌∷◌, ◌++◌, length, Option, None, Some, refl, ap, sym, subst, ◌∙◌, arith}
+use Rattle.std.specs.Prelude.{◌||◌, nat_le, option_map}
+use Rattle.std.proofs.lemmas.Option.{none-some}
 use Rattle.std.proofs.lemmas.List.{append_assoc}
 use Rattle.hp_units.specs.declared.replies.Record.{Record}
 use Rattle.hp_schedules.specs.Alike.{AreMergeable}
-use Rattle.hp_schedules.specs.Continuing.{ContinueAlike, ContinuesAs}
+use Rattle.hp_units.specs.declared.events.Event.{Event}
+use Rattle.hp_renumbering.proofs.Numbered.{differ}
+use Rattle.hp_schedules.specs.Continuing.{ContinueAlike, ContinuesAs, anonymous}
 use Rattle.hp_schedules.specs.Cursors.{AreCursors, IsSteered}
 use Rattle.hp_schedules.specs.declared.cursors.Cursor.{Cursor}
 use Rattle.hp_schedules.specs.declared.scripts.Step.{Step}
-use Rattle.hp_schedules.specs.Schedules.{Setting, plays, schedule_of}
-use Rattle.hp_schedules.proofs.Continuing.{all_calls, continues_as}
-use Rattle.hp_schedules.proofs.Steering.{parts_apart, steered_continue}
+use Rattle.hp_schedules.specs.Schedules.{Setting, next_call, plays, schedule_of}
+use Rattle.hp_schedules.specs.Scripts.{greatest_named}
+use Rattle.hp_schedules.proofs.Continuing.{continues_as}
+use Rattle.hp_schedules.proofs.SameCalls.{all_calls}
+use Rattle.hp_schedules.proofs.Steering.{steered_same}
 use Rattle.hp_states.specs.Rooms.{HasNoRoom}
 use Rattle.hp_states.specs.Stops.{AreNumbersAt, AreStopsAt, StopsValue}
 use Rattle.hp_states.proofs.StopNumbers.{numbers_join}
 use Rattle.hp_explore.specs.Aims.{AimValue, AreSteered, IsDone, IsLawful}
 use Rattle.hp_explore.specs.SteeredBelow.{steered_apart, steered_at}
+use Rattle.hp_explore.specs.LatestOps.{numbering, ops_at}
 use Rattle.hp_explore.specs.Visited.{IsPlaceKey}
+use Rattle.hp_explore.proofs.LatestNumbers.{later_number, scripts_named}
 
 -- ---- parts of keys
 
 -- one processor's numbers more
-pub steered_more : (scripts : List (List Step)) (news : List Record) (cursors : List Cursor) (cpu : ℕ)
-    (old mid new : List ℕ)
+pub steered_more : (p : ℕ → ℕ) (scripts : List (List Step)) (news : List Record) (cursors : List Cursor)
+    (cpu : ℕ) (old mid new : List ℕ)
     → ((part : List ℕ) × (mid ≡ old ++ part)
-    × ((g : Setting) → g.scripts ≡ scripts → AreCursors g news cursors → AreSteered g cpu news part))
+    × ((g : Setting) → g.scripts ≡ scripts → AreCursors g news cursors → AreSteered p g cpu news part))
     → ((part : List ℕ) × (new ≡ mid ++ part)
-    × ((g : Setting) → g.scripts ≡ scripts → AreCursors g news cursors → IsSteered g cpu news part))
+    × ((g : Setting) → g.scripts ≡ scripts → AreCursors g news cursors → IsSteered p g cpu news part))
     → (part : List ℕ) × (new ≡ old ++ part)
-    × ((g : Setting) → g.scripts ≡ scripts → AreCursors g news cursors → AreSteered g (cpu + 1) news part)
-steered_more scripts news cursors cpu old mid new so_far more = (
+    × ((g : Setting) → g.scripts ≡ scripts → AreCursors g news cursors → AreSteered p g (cpu + 1) news part)
+steered_more p scripts news cursors cpu old mid new so_far more = (
   so_far.0 ++ more.0,
   more.1 ∙ (ap (λ (xs : List ℕ). xs ++ more.0) so_far.1 ∙ append_assoc old so_far.0 more.0),
   λ g are at.
       let next : suc cpu ≡ cpu + 1 = omega arith in
-      subst (λ (n : ℕ). AreSteered g n news (so_far.0 ++ more.0)) next
+      subst (λ (n : ℕ). AreSteered p g n news (so_far.0 ++ more.0)) next
       (so_far.0, more.0, refl, more.2 g are at, so_far.2 g are at),
 )
 
 -- a key is written part by part
 pub key_made : (g : Setting) (aim : AimValue) (stops : StopsValue) (news given : List Record)
-    (scripts : List (List Step)) (cursors : List Cursor) (processors : ℕ) (none first second key : List ℕ)
+    (scripts : List (List Step)) (cursors : List Cursor) (processors : ℕ) (numbers : ℕ → ℕ)
+    (none first second key : List ℕ)
     → none ≡ [] → processors ≡ length g.scripts → scripts ≡ g.scripts → given ≡ news
-    → AreCursors g news cursors → AreStopsAt g news stops
+    → numbers ≡ numbering g news → AreCursors g news cursors → AreStopsAt (numbering g) g news stops
     → ((state : ℕ) × (openings : ℕ) × (first ≡ none ++ state ∷ openings ∷ [])
-    × ((g : Setting) (news : List Record) → AreStopsAt g news stops
-    → AreNumbersAt g news stops state openings))
+    × ((at : List Record → ℕ → ℕ) (g : Setting) (news : List Record) → AreStopsAt at g news stops
+    → AreNumbersAt (at news) g news stops state openings))
     → ((part : List ℕ) × (second ≡ first ++ part)
-    × ((g : Setting) → g.scripts ≡ scripts → AreCursors g given cursors → AreSteered g processors given part))
+    × ((g : Setting) → g.scripts ≡ scripts → AreCursors g given cursors
+    → AreSteered numbers g processors given part))
     → ((part : List ℕ) × (key ≡ second ++ part) × aim.marks news part)
     → IsPlaceKey g aim stops news key
-key_made g aim stops news given scripts cursors processors none first second key empty many are told at stands
-    numbers steering marks = record {
-      state = numbers.0;
-      openings = numbers.1;
+key_made g aim stops news given scripts cursors processors numbers none first second key empty many are told
+    numbered at stands written steering marks = record {
+      state = written.0;
+      openings = written.1;
       steering = steering.0;
       marks = marks.0;
       key_is =
@@ -62,25 +70,27 @@ key_made g aim stops news given scripts cursors processors none first second key
           ∙ ap (λ (xs : List ℕ). xs ++ marks.0)
           (steering.1
           ∙ ap (λ (xs : List ℕ). xs ++ steering.0)
-          (numbers.2 ∙ ap (λ (xs : List ℕ). xs ++ numbers.0 ∷ numbers.1 ∷ []) empty));
-      numbers_are = numbers.3 g news stands;
+          (written.2 ∙ ap (λ (xs : List ℕ). xs ++ written.0 ∷ written.1 ∷ []) empty));
+      numbers_are = written.3 (numbering g) g news stands;
       steered =
-          subst (λ (n : ℕ). AreSteered g n news steering.0) many
-          (subst (λ (h : List Record). AreSteered g processors h steering.0) told
-          (steering.2 g (sym are) (subst (λ (h : List Record). AreCursors g h cursors) (sym told) at)));
+          subst (λ (p : ℕ → ℕ). AreSteered p g (length g.scripts) news steering.0) numbered
+          (subst (λ (n : ℕ). AreSteered numbers g n news steering.0) many
+          (subst (λ (h : List Record). AreSteered numbers g processors h steering.0) told
+          (steering.2 g (sym are) (subst (λ (h : List Record). AreCursors g h cursors) (sym told) at))));
       marked = marks.2;
     }
 
 -- the parts of two keys that are one
-pub key_parts : (g : Setting) (aim : AimValue) (stops : StopsValue) (h k : List Record) (key : List ℕ)
+pub key_parts : (g : Setting) (aim : AimValue) (stops : StopsValue) (h k : List Record)
+    (key : List ℕ)
     → (a : IsPlaceKey g aim stops h key) → (b : IsPlaceKey g aim stops k key)
     → (a.state ≡ b.state) × (a.openings ≡ b.openings) × (a.steering ≡ b.steering) × (a.marks ≡ b.marks)
 key_parts g aim stops h k key a b =
     let same : a.state ∷ a.openings ∷ (a.steering ++ a.marks)
     ≡ b.state ∷ b.openings ∷ (b.steering ++ b.marks) =
     sym a.key_is ∙ b.key_is in
-    let both = steered_apart g h k (length g.scripts) a.steering b.steering a.marks b.marks (omega arith)
-    a.steered b.steered (cc) in (
+    let both = steered_apart (numbering g h) (numbering g k) g h k (length g.scripts) a.steering
+    b.steering a.marks b.marks (omega arith) a.steered b.steered (cc) in (
       (cc),
       (cc),
       both.0,
@@ -89,45 +99,67 @@ key_parts g aim stops h k key a b =
 
 -- ---- places with one key go on alike
 
-pub keys_alike : (g : Setting) (aim : AimValue) (stops : StopsValue) (h k : List Record) (key : List ℕ)
-    → IsLawful g aim → AreMergeable g.scripts
-    → plays g (schedule_of h) ≡ Some h → plays g (schedule_of k) ≡ Some k
+pub keys_alike : (g : Setting) (aim : AimValue) (stops : StopsValue) (h k : List Record)
+    (key : List ℕ)
+    → IsLawful g aim → AreMergeable g.scripts → plays g (schedule_of h) ≡ Some h
+    → plays g (schedule_of k) ≡ Some k
     → IsPlaceKey g aim stops h key → IsPlaceKey g aim stops k key → ContinueAlike g h k
-keys_alike g aim stops h k key lawful mergeable first second a b =
-    steered_continue g h k mergeable
-    (lawful.counted h k b.marks first second (subst (aim.marks h) same.3 a.marked) b.marked)
-    (λ cpu within. steered_at g h k a.steering b.steering same.2 a.steered b.steered cpu within)
-    (numbers_join g stops h k b.state b.openings
-    (subst (λ (n : ℕ). AreNumbersAt g h stops n b.openings) same.0
-    (subst (λ (n : ℕ). AreNumbersAt g h stops a.state n) same.1 a.numbers_are))
-    b.numbers_are)
+keys_alike g aim stops h k key lawful mergeable first second a b = record {
+  first_numbers = numbering g h;
+  second_numbers = numbering g k;
+  first_differ = differ (greatest_named g.scripts) (ops_at g h);
+  second_differ = differ (greatest_named g.scripts) (ops_at g k);
+  same =
+      steered_same (numbering g h) (numbering g k) g h k mergeable calls
+      (λ n past. later_number g h n first past
+      ∙ sym (later_number g k n second (omega (arith, past, all_calls g h k calls))))
+      (λ cpu lines here. scripts_named (ops_at g h) (ops_at g k) g.scripts cpu lines here)
+      (λ cpu within. steered_at (numbering g h) (numbering g k) g h k a.steering b.steering same.2
+      a.steered b.steered cpu within)
+      (numbers_join (numbering g h) (numbering g k) g stops h k b.state b.openings
+      (subst (λ (n : ℕ). AreNumbersAt (numbering g h) g h stops n b.openings) same.0
+      (subst (λ (n : ℕ). AreNumbersAt (numbering g h) g h stops a.state n) same.1 a.numbers_are))
+      b.numbers_are);
+}
   where
     same : (a.state ≡ b.state) × (a.openings ≡ b.openings) × (a.steering ≡ b.steering)
         × (a.marks ≡ b.marks)
     same = key_parts g aim stops h k key a b
 
+    calls : length h ≡ length k
+    calls = lawful.counted h k b.marks first second (subst (aim.marks h) same.3 a.marked) b.marked
+
 -- a call for which the history has no room has none from the other
 room_alike : (g : Setting) (p q rest : List ℕ) (h k : List Record) → AreMergeable g.scripts
     → plays g p ≡ Some h → plays g q ≡ Some k → ContinueAlike g h k → HasNoRoom g (p ++ rest)
     → HasNoRoom g (q ++ rest)
-room_alike g p q rest h k all first second alike full = record {
-  news = k ++ on.more;
-  cpu = full.cpu;
-  event = full.event;
-  played = on.played;
-  asked = sym (on.calls full.cpu) ∙ full.asked;
-  full =
-      ap (λ (n : ℕ). nat_le g.layout.history n || nat_le 18446744073709551615 (g.before + n))
-      (sym (all_calls g full.news (k ++ on.more) on.alike.calls)) ∙ full.full;
-}
+room_alike g p q rest h k all first second alike full =
+    by_call (next_call g full.cpu (k ++ on.others)) refl
   where
     on : ContinuesAs g q rest h k full.news
     on = continues_as g p q rest h k full.news all first second alike full.played
 
+    by_call : (o : Option Event) → next_call g full.cpu (k ++ on.others) ≡ o → HasNoRoom g (q ++ rest)
+    by_call None none =
+        absurd (none-some (anonymous full.event)
+        (sym (ap (option_map anonymous) none)
+        ∙ (sym (on.calls full.cpu) ∙ ap (option_map anonymous) full.asked)))
+    by_call (Some event) asked = record {
+      news = k ++ on.others;
+      cpu = full.cpu;
+      event = event;
+      played = on.played;
+      asked = asked;
+      full =
+          ap (λ (n : ℕ). nat_le g.layout.history n || nat_le 18446744073709551615 (g.before + n))
+          (sym (all_calls g full.news (k ++ on.others) on.alike.same.calls)) ∙ full.full;
+    }
+
 -- so what is done from the one is done from the other
-pub done_alike : (g : Setting) (aim : AimValue) (stops : StopsValue) (h k : List Record) (key : List ℕ)
-    → IsLawful g aim → AreMergeable g.scripts
-    → plays g (schedule_of h) ≡ Some h → plays g (schedule_of k) ≡ Some k
+pub done_alike : (g : Setting) (aim : AimValue) (stops : StopsValue) (h k : List Record)
+    (key : List ℕ)
+    → IsLawful g aim → AreMergeable g.scripts → plays g (schedule_of h) ≡ Some h
+    → plays g (schedule_of k) ≡ Some k
     → aim.admits (schedule_of h) → aim.admits (schedule_of k)
     → IsPlaceKey g aim stops h key → IsPlaceKey g aim stops k key
     → IsDone g aim (schedule_of h) → IsDone g aim (schedule_of k)
@@ -138,9 +170,12 @@ done_alike g aim stops h k key lawful mergeable first second admitted here a b d
         first_played = second;
         second_played = first;
         alike = back;
+        first_numbers = numbering g k;
+        second_numbers = numbering g h;
         steering = b.steering;
         first_steered = b.steered;
-        second_steered = subst (AreSteered g (length g.scripts) h) same.2 a.steered;
+        second_steered =
+            subst (AreSteered (numbering g h) g (length g.scripts) h) same.2 a.steered;
       }) here admitted b.marked (subst (aim.marks h) same.3 a.marked) (subst aim.sought on.1 sought))
       (on.0, refl),
   λ whole s full on. done.1 whole (schedule_of h ++ on.0)

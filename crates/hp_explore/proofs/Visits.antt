@@ -9,6 +9,7 @@ use Rattle.hp_schedules.specs.Continuing.{ContinueAlike}
 use Rattle.hp_schedules.specs.Orders.{Extends}
 use Rattle.hp_schedules.specs.Schedules.{Setting, plays, schedule_of}
 use Rattle.hp_states.specs.Stops.{KeepStops, StopsValue}
+use Rattle.hp_explore.specs.LatestOps.{numbering}
 use Rattle.hp_states.proofs.Rooms.{push_extends}
 use Rattle.hp_states.proofs.StopNumbers.{numbers_kept}
 use Rattle.hp_explore.specs.Aims.{AimValue, IsDone, IsLawful, IsNarrower}
@@ -42,7 +43,7 @@ known_done g aim before cpu news v lawful played longer admitted visited known =
     by_kind (inr on) =
         absurd (omega (
           arith,
-          alike.calls,
+          alike.same.calls,
           length-map there.news (λ (r : Record). r.cpu),
           length-map news (λ (r : Record). r.cpu),
           ap (λ (s : List ℕ). length s) longer,
@@ -61,7 +62,7 @@ key_kept g aim old new news key keep is = record {
   steering = is.steering;
   marks = is.marks;
   key_is = is.key_is;
-  numbers_are = numbers_kept g news old new is.state is.openings keep is.numbers_are;
+  numbers_are = numbers_kept (numbering g news) g news old new is.state is.openings keep is.numbers_are;
   steered = is.steered;
   marked = is.marked;
 }

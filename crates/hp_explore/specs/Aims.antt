@@ -1,4 +1,4 @@
--- What a search looks for, where it may go, and what it finds.
+-- The aim of a search: the schedules that it looks for, the places that it may come to, and its result.
 use Rattle.std.specs.Prelude.{◌≡◌, ℕ, zero, suc, List, [], ◌∷◌, ◌++◌, Option, Some, None, length}
 use Rattle.hp_units.specs.declared.replies.Record.{Record}
 use Rattle.hp_schedules.specs.Alike.{AreMergeable}
@@ -17,7 +17,7 @@ use Rattle.hp_explore.specs.declared.fault.FindFault.TheVariants.{HistoryFull, O
 
 -- ---- aims
 
--- what an aim is in one setting. A place is the schedule of the calls made so far
+-- the parts of an aim, for one setting. A place is given by the schedule that leads to it
 pub record AimValue : Type 1 where
   -- the schedules that are looked for
   pub sought : List ℕ → Type 0
@@ -27,8 +27,8 @@ pub record AimValue : Type 1 where
   pub admits : List ℕ → Type 0
   -- the calls that may be tried from an admitted place, before their replies are known
   pub tries : List ℕ → (cpu : ℕ) → Type 0
-  -- numbers of the place after these records. Together with the rest of the place's key, they decide
-  -- which of its continuations are sought
+  -- numbers of the place after these records. With the rest of the place's key, they decide which
+  -- continuations of the place are sought
   pub marks : List Record → List ℕ → Type 0
   -- the search has to come to every place, so that it finds each call for which the history has no room
   pub is_whole : Type 0
@@ -41,7 +41,7 @@ NoneBefore aim place = (s : List ℕ) → aim.sought s → IsBefore s place → 
 abbrev pub NoneFrom : AimValue → (place : List ℕ) → Type 0
 NoneFrom aim place = (s : List ℕ) → aim.sought s → Extends s place → ⊥
 
--- the search need not come to the place
+-- the search may leave the place out
 abbrev pub MayBeSkipped : AimValue → (place : List ℕ) → Type 0
 MayBeSkipped aim place = NoneFrom aim place × (aim.is_whole → ⊥)
 
@@ -53,7 +53,8 @@ pub record IsTried (aim : AimValue) (place : List ℕ) : Type 0 where
   pub from : aim.admits before
   pub tried : aim.tries before cpu
 
--- an aim that seeks no more schedules than another
+-- the new aim seeks only schedules that the old one seeks, and admits each place that the old one
+-- admits, with the same marks
 pub record IsNarrower (old new : AimValue) : Type 0 where
   pub sought : (s : List ℕ) → new.sought s → old.sought s
   pub admits : (s : List ℕ) → old.admits s → new.admits s
@@ -62,27 +63,29 @@ pub record IsNarrower (old new : AimValue) : Type 0 where
 
 -- ---- equivalent places
 
--- what the further calls of the processors below `cpus` depend on; `numbers` has a part for each
--- processor
-abbrev pub AreSteered : Setting → (cpus : ℕ) → List Record → List ℕ → Type 0
-AreSteered g zero news numbers = numbers ≡ []
-AreSteered g (suc cpus) news numbers =
+-- the numbers that decide the further calls of the processors below `cpus`, one processor after
+-- another; `f` renumbers the operations
+abbrev pub AreSteered : (f : ℕ → ℕ) → Setting → (cpus : ℕ) → List Record → List ℕ → Type 0
+AreSteered f g zero news numbers = numbers ≡ []
+AreSteered f g (suc cpus) news numbers =
     (rest : List ℕ) × (part : List ℕ) × (numbers ≡ rest ++ part)
-    × IsSteered g cpus news part × AreSteered g cpus news rest
+    × IsSteered f g cpus news part × AreSteered f g cpus news rest
 
--- two places whose keys are equal, apart from the marks: the same calls continue from both, to equal
--- states
+-- two places have equal keys, apart from the marks: the same calls continue from both, to states that
+-- are equal but for the numbers of operations
 pub record HaveSameKey (g : Setting) (first second : List Record) : Type 0 where
   pub mergeable : AreMergeable g.scripts
   pub first_played : plays g (schedule_of first) ≡ Some first
   pub second_played : plays g (schedule_of second) ≡ Some second
   pub alike : ContinueAlike g first second
+  pub first_numbers : ℕ → ℕ
+  pub second_numbers : ℕ → ℕ
   pub steering : List ℕ
-  pub first_steered : AreSteered g (length g.scripts) first steering
-  pub second_steered : AreSteered g (length g.scripts) second steering
+  pub first_steered : AreSteered first_numbers g (length g.scripts) first steering
+  pub second_steered : AreSteered second_numbers g (length g.scripts) second steering
 
--- the laws of an aim, on which the search relies. A sought schedule can be played. Places with the same
--- marks have equally many calls. From admitted places with the same key and marks, the same
+-- the laws of an aim, on which the search relies. Each sought schedule can be played. Places with the
+-- same marks have equally many calls. From admitted places with the same key and marks, the same
 -- continuations are sought
 pub record IsLawful (g : Setting) (aim : AimValue) : Type 0 where
   pub played : (s : List ℕ) → aim.sought s → (news : List Record) × (plays g s ≡ Some news)
@@ -96,14 +99,14 @@ pub record IsLawful (g : Setting) (aim : AimValue) : Type 0 where
 
 -- ---- results
 
--- no sought schedule continues from the place; if the search has to come to every place, the history
--- has room for each call from there on
+-- no sought schedule continues from the place. If the search has to come to every place, the history
+-- also has room for each call from there on
 abbrev pub IsDone : Setting → AimValue → (place : List ℕ) → Type 0
 IsDone g aim place = NoneFrom aim place × (aim.is_whole → HasRoomFrom g place)
 
--- the first sought schedule: none is before it, none continues from it, and the history has room for
--- each of its calls. None: no schedule is sought, and if the search has to come to every place, the
--- history has room for each call
+-- either the first sought schedule, with room in the history for each of its calls, or None: no
+-- schedule is sought. If the search has to come to every place, None also means that the history has
+-- room for each call
 abbrev pub IsFirstSought : Setting → AimValue → Option (List ℕ) → Type 0
 IsFirstSought g aim None = ((s : List ℕ) → aim.sought s → ⊥) × (aim.is_whole → FillsHistory g → ⊥)
 IsFirstSought g aim (Some s) =

@@ -1,12 +1,13 @@
--- The last refusals that the plans in progress met, as numbers; from two places with the same numbers,
+-- The last refusals that the plans in progress met, as numbers. From two places with the same numbers,
 -- the same further records give the same answers.
-use Rattle.std.proofs.Common.{◌≡◌, ℕ, zero, suc, ◌<◌, ◌≤◌, List, [], ◌∷◌, ◌++◌, length, refl, ap, sym, subst, ◌∙◌, arith, inl, inr}
+use Rattle.std.proofs.Common.{◌≡◌, ℕ, zero, suc, ◌<◌, ◌≤◌, List, [], ◌++◌, length, map, refl, ap, sym, subst, ◌∙◌, arith, inl, inr}
 use Rattle.std.specs.Prelude.{◌⊎◌}
 use Rattle.std.proofs.lemmas.Bool.{cases_lt}
 use Rattle.std.proofs.lemmas.List.{length-append}
 use Rattle.std.proofs.lemmas.Option.{slice_get_past}
 use Rattle.hp_units.specs.declared.replies.Record.{Record}
 use Rattle.hp_schedules.specs.Causes.{AnswerAlike, IsCaused}
+use Rattle.hp_schedules.specs.Continuing.{anonymous_record}
 use Rattle.hp_schedules.specs.LineAnswers.{answers_at}
 use Rattle.hp_schedules.specs.Schedules.{Setting}
 use Rattle.hp_schedules.proofs.Caused.{answer_alike}
@@ -14,14 +15,14 @@ use Rattle.hp_explore.specs.Aims.{HaveSameKey}
 use Rattle.hp_schedules.specs.Starts.{same_starts}
 use Rattle.hp_explore.specs.SteeredBelow.{steered_at}
 
--- two numbers for each processor below a number, of the last refusal that its plan in progress met
+-- two numbers per processor below `cpus`: the last refusal that its plan in progress met
 abbrev pub AreCausedBelow : Setting → (cpus : ℕ) → List Record → List ℕ → Type 0
 AreCausedBelow g zero news numbers = numbers ≡ []
 AreCausedBelow g (suc cpus) news numbers =
     (rest : List ℕ) × (part : List ℕ) × (numbers ≡ rest ++ part) × (length part ≡ 2)
     × IsCaused g cpus news part × AreCausedBelow g cpus news rest
 
--- ---- numbers of causes
+-- ---- the numbers of refusals
 
 caused_long : (g : Setting) (h k : List Record) (n : ℕ) (xs ys : List ℕ) → AreCausedBelow g n h xs
     → AreCausedBelow g n k ys → length xs ≡ length ys
@@ -38,7 +39,7 @@ caused_long g h k (suc n) xs ys a b =
       caused_long g h k n a.0 b.0 a.5 b.5,
     )
 
--- two places with the same numbers have the same numbers for each processor
+-- two places with equal lists of these numbers have equal numbers for each processor
 caused_at : (g : Setting) (h k : List Record) (n : ℕ) (xs ys : List ℕ) → xs ≡ ys
     → AreCausedBelow g n h xs → AreCausedBelow g n k ys → (cpu : ℕ) → cpu < n
     → (part : List ℕ) × IsCaused g cpu h part × IsCaused g cpu k part
@@ -65,20 +66,22 @@ none_at : (g : Setting) (cpu : ℕ) (news : List Record) → length g.scripts �
 unfolding answers_at
 none_at g cpu news past = rw (slice_get_past g.scripts cpu past) refl
 
-pub answered_alike : (g : Setting) (h k more : List Record) (xs ys : List ℕ) → xs ≡ ys → HaveSameKey g h k
+pub answered_alike : (g : Setting) (h k more others : List Record) (xs ys : List ℕ) → xs ≡ ys
+    → HaveSameKey g h k → map anonymous_record more ≡ map anonymous_record others
     → AreCausedBelow g (length g.scripts) h xs → AreCausedBelow g (length g.scripts) k ys
-    → (cpu : ℕ) → AnswerAlike g cpu h k more
-answered_alike g h k more xs ys causes same a b cpu = by_place (cases_lt cpu (length g.scripts))
+    → (cpu : ℕ) → AnswerAlike g cpu h k more others
+answered_alike g h k more others xs ys causes same are a b cpu = by_place (cases_lt cpu (length g.scripts))
   where
-    by_place : (cpu < length g.scripts) ⊎ (length g.scripts ≤ cpu) → AnswerAlike g cpu h k more
+    by_place : (cpu < length g.scripts) ⊎ (length g.scripts ≤ cpu) → AnswerAlike g cpu h k more others
     by_place (inl below) =
-        let steered = steered_at g h k same.steering same.steering refl same.first_steered
-        same.second_steered cpu below in
+        let steered = steered_at same.first_numbers same.second_numbers g h k same.steering same.steering refl
+        same.first_steered same.second_steered cpu below in
         let caused = caused_at g h k (length g.scripts) xs ys causes a b cpu below in
-        answer_alike g cpu h k more steered.0 caused.0 steered.1 steered.2 caused.1 caused.2
+        answer_alike same.first_numbers same.second_numbers g cpu h k more others steered.0 caused.0 steered.1
+        steered.2 caused.1 caused.2 are
     by_place (inr past) = record {
       many = ap length (none_at g cpu h past ∙ sym (none_at g cpu k past));
       later = [];
       first = rw (none_at g cpu h past) (none_at g cpu (h ++ more) past);
-      second = rw (none_at g cpu k past) (none_at g cpu (k ++ more) past);
+      second = rw (none_at g cpu k past) (none_at g cpu (k ++ others) past);
     }

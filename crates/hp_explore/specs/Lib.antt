@@ -16,3 +16,4 @@ pub mod Sums
 pub mod Visited
 pub mod Walks
 pub mod Withins
+pub mod LatestOps

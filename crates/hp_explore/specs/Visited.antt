@@ -6,12 +6,14 @@ use Rattle.hp_schedules.specs.Orders.{Extends}
 use Rattle.hp_schedules.specs.Schedules.{Setting, plays, schedule_of}
 use Rattle.hp_states.specs.Stops.{AreNumbersAt, AreStopsAt, StopsValue}
 use Rattle.hp_explore.specs.Aims.{AimValue, AreSteered, IsDone}
+use Rattle.hp_schedules.specs.Scripts.{greatest_named}
+use Rattle.hp_explore.specs.LatestOps.{AreLatestAt, numbering}
 use Rattle.hp_explore.specs.declared.visited.Visited.{Visited}
 
--- ---- visited places
+-- ---- the places visited
 
--- the key of a place: the numbers of its state and of what a Cancel can take back there, what further
--- calls depend on, and the aim's marks
+-- the key of a place: the numbers of its state and of its openings, the numbers that decide the further
+-- calls, and the aim's marks. Operations have the numbers that `numbering` gives them
 pub record IsPlaceKey (g : Setting) (aim : AimValue) (stops : StopsValue) (news : List Record)
     (key : List ℕ) : Type 0 where
   pub state : ℕ
@@ -19,11 +21,11 @@ pub record IsPlaceKey (g : Setting) (aim : AimValue) (stops : StopsValue) (news 
   pub steering : List ℕ
   pub marks : List ℕ
   pub key_is : key ≡ ((state ∷ openings ∷ []) ++ steering) ++ marks
-  pub numbers_are : AreNumbersAt g news stops state openings
-  pub steered : AreSteered g (length g.scripts) news steering
+  pub numbers_are : AreNumbersAt (numbering g news) g news stops state openings
+  pub steered : AreSteered (numbering g news) g (length g.scripts) news steering
   pub marked : aim.marks news marks
 
--- the key is that of an admitted place that is done, or that the schedule leads through
+-- the key belongs to an admitted place, which either is done or is on the schedule's path
 pub record IsVisited (g : Setting) (aim : AimValue) (schedule : List ℕ) (stops : StopsValue)
     (key : List ℕ) : Type 0 where
   pub news : List Record
@@ -32,17 +34,20 @@ pub record IsVisited (g : Setting) (aim : AimValue) (schedule : List ℕ) (stops
   pub key_is : IsPlaceKey g aim stops news key
   pub done : IsDone g aim (schedule_of news) ⊎ Extends schedule (schedule_of news)
 
--- all keys are those of visited places; and if any are kept, the scripts are mergeable
+-- each key belongs to a visited place. If places are kept, the scripts are mergeable
 pub record AreVisited (g : Setting) (aim : AimValue) (schedule : List ℕ) (v : Visited) : Type 0 where
   pub mergeable : v.is_on ≡ true → AreMergeable g.scripts
   pub each : (i : ℕ) (key : List ℕ) → slice_get v.keys i ≡ Some key
       → IsVisited g aim schedule v.stops key
 
--- if places are kept, the numbers in `stops` are those of the place after these records
+-- if places are kept, `stops` and `latest` have the numbers for the place after these records
 abbrev pub AreFollowed : Setting → List Record → Visited → Type 0
-AreFollowed g news v = v.is_on ≡ true → AreStopsAt g news v.stops
+AreFollowed g news v =
+    v.is_on ≡ true
+    → AreStopsAt (numbering g) g news v.stops × AreLatestAt g news v.latest
+    × (v.fixed ≡ greatest_named g.scripts)
 
--- ---- at a place
+-- ---- one place
 
 -- a key of the place is among the keys
 pub record IsKnown (g : Setting) (aim : AimValue) (news : List Record) (v : Visited) : Type 0 where
@@ -52,13 +57,13 @@ pub record IsKnown (g : Setting) (aim : AimValue) (news : List Record) (v : Visi
   pub here : slice_get v.keys at ≡ Some key
   pub key_is : IsPlaceKey g aim v.stops news key
 
--- the key of the place is added, or no key is
+-- either no key is added, or the place's key is
 abbrev pub IsKept : Setting → AimValue → List Record → Visited → Visited → Type 0
 IsKept g aim news old new =
     (new.keys ≡ old.keys)
     ⊎ ((key : List ℕ) × (new.keys ≡ old.keys ++ key ∷ []) × IsPlaceKey g aim new.stops news key)
 
--- the place is known; or its key is kept
+-- either the place is known, or its key may have been added
 abbrev pub IsLookedUp : Setting → AimValue → List Record → Visited → Visited → (known : Bool) → Type 0
 IsLookedUp g aim news old new true = (new.keys ≡ old.keys) × IsKnown g aim news new
 IsLookedUp g aim news old new false = IsKept g aim news old new

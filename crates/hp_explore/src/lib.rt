@@ -5,7 +5,7 @@
 //! and stores their counts. This crate owns:
 //! - the walk over all schedules (`exploring`),
 //! - the search for the first schedule that an aim seeks (`searching`, `aim`), which tries a place
-//!   once (`visited`),
+//!   once (`visited`), with numbers of operations that do not tell when they began (`latest_ops`),
 //! - the merging of parts (`summing`, `jobs`).
 //!
 //! `finding` searches by rising number of changes of processor, as in CHESS (Musuvathi and Qadeer,
@@ -14,8 +14,8 @@
 //! The crate makes its calls on a memory of its own and takes each back, so that the caller's
 //! machine never changes. It knows nothing of scenarios or texts.
 //!
-//! Read specs/Settings, specs/Faults and specs/Walks first, then specs/Aims, specs/Reaching and
-//! specs/Sums.
+//! Read specs/Settings, specs/Faults and specs/Walks first, then specs/Aims, specs/Visited,
+//! specs/Reaching and specs/Sums.
 #![tactic(auto)]
 
 mod aim;
@@ -27,6 +27,7 @@ mod exploring;
 mod fault;
 mod finding;
 mod jobs;
+mod latest_ops;
 mod over;
 mod path;
 mod playing;

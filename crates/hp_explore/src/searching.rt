@@ -85,8 +85,8 @@ pub fn first_sought<A: Aim, W: Watch>(
         (A.shows aim.new (setting machine.now scripts.now))) }
     ensures stopped { IfErr result (λ fault. fault ≡ Stopped → W.has_ended watch.new) }
 {
-    let mut search = Search::start(alloc, machine, scripts)?;
     let processors = scripts.len() as u32;
+    let mut search = Search::start(alloc, machine, scripts, processors)?;
     'turns: loop {
         match search.turn(alloc, processors, aim)? {
             Turn::On => {}
@@ -108,11 +108,13 @@ impl<'a> Search<'a> {
         alloc: Global,
         machine: &'a Machine,
         scripts: &'a [CallScript],
+        processors: u32,
     ) -> Result<Search<'a>, AllocError>
+        requires { processors ≡ length scripts.now }
         ensures { IfOk result (IsBegun (setting machine.now scripts.now)) }
     {
         let path = Path::start(alloc, machine, scripts)?;
-        let visited = Visited::start(alloc, machine, scripts, path.memory())?;
+        let visited = Visited::start(alloc, machine, scripts, &path, processors)?;
         Ok(Search {
             path,
             schedule: Vec::new(alloc),
@@ -172,7 +174,12 @@ impl<'a> Search<'a> {
             return Ok(Turn::On);
         }
         self.schedule.push_reserved(Cpu(self.next));
-        self.visited.go_on(latest(self.path.records()))?;
+        self.visited.go_on(
+            alloc,
+            latest(self.path.records()),
+            self.path.positions(),
+            processors,
+        )?;
         let turn = self.arrive(alloc, processors, aim)?;
         Ok(turn)
     }

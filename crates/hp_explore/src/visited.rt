@@ -2,32 +2,35 @@
 ghost use Rattle.std.specs.Prelude.{◌≡◌, ◌++◌, ◌∷◌, ℕ, List, IfOk, OnOk, [], length, true};
 ghost use Rattle.hp_units.specs.History.{effect_of};
 ghost use Rattle.hp_units.specs.declared.replies.Record.{Record as NewRecord};
+ghost use Rattle.hp_renumbering.specs.Numberings.{number_of};
 ghost use Rattle.hp_schedules.specs.Alike.{AreMergeable, leaves_steps};
 ghost use Rattle.hp_schedules.specs.Cursors.{AreCursors};
 ghost use Rattle.hp_schedules.specs.Schedules.{Setting, schedule_of};
-ghost use Rattle.hp_states.specs.Places.{memory_at};
 ghost use Rattle.hp_states.specs.Stops.{AreSameStops, KeepStops};
 ghost use Rattle.hp_explore.specs.Settings.{setting};
 ghost use Rattle.hp_explore.specs.Aims.{AreSteered};
 ghost use Rattle.hp_explore.specs.Visited.{AreFollowed, IsLookedUp, IsPlaceKey};
 
 use crate::aim::Aim;
+use crate::latest_ops::LatestOps;
 use crate::path::Path;
 use crate::walk::keeps_places;
 use hp_machine::Machine;
-use hp_memory::Memory;
-use hp_schedules::{CallScript, Positions, is_closed};
+use hp_schedules::{CallScript, Positions, greatest_named, is_closed};
 use hp_states::{KeyTable, Stops};
-use hp_units::{Cpu, Record};
+use hp_units::{Cpu, Record, Serial};
 use std::alloc::{AllocError, Global};
 
 /// The keys of the places that a search has visited, and the numbers of the place where it is.
 ///
 /// Two places with the same key continue alike: with the same calls, and the aim seeks the same
-/// continuations. So a place is tried once. `key` is the key written last. With `is_on` false no
-/// place is ever kept.
+/// continuations. So a place is tried once. In keys, operations above `fixed` are numbered by the
+/// processors that began them last, since it does not matter when they began. `key` is the key
+/// written last. With `is_on` false no place is ever kept.
 pub(crate) struct Visited {
     is_on: bool,
+    fixed: Serial,
+    latest: LatestOps,
     stops: Stops,
     keys: KeyTable,
     key: Vec<u32>,
@@ -38,6 +41,8 @@ impl Drop for Visited {
     fn drop(self) {
         let Visited {
             is_on: _,
+            fixed: _,
+            latest: _latest,
             stops: _stops,
             keys: _keys,
             key: _,
@@ -46,42 +51,57 @@ impl Drop for Visited {
 }
 
 impl Visited {
-    /// Creates the table for a search before any call. `memory` is that of the machine.
+    /// Creates the table for a search on the machine that is at the beginning of the path.
     pub(crate) fn start(
         alloc: Global,
         machine: &Machine,
         scripts: &[CallScript],
-        memory: &Memory,
+        path: &Path<'_>,
+        processors: u32,
     ) -> Result<Visited, AllocError>
-        requires { memory.now ≡ memory_at (setting machine.now scripts.now) [] }
+        requires begun { path.now ≡ record { setting = setting machine.now scripts.now; news = [] } }
+        requires processors { processors ≡ length scripts.now }
         ensures none { IfOk result (λ visited. visited.keys ≡ []) }
         ensures mergeable { IfOk result (λ visited. visited.is_on ≡ true → AreMergeable scripts.now) }
         ensures way { IfOk result (λ visited. AreFollowed (setting machine.now scripts.now) [] visited) }
     {
         let is_on = keeps_places(scripts);
+        let fixed = greatest_named(scripts);
+        let latest = LatestOps::start(alloc, path.positions(), processors)?;
         let mut stops = Stops::start(alloc, is_closed(machine.history()));
-        stops.number_state(alloc, memory)?;
+        stops.number_state(alloc, path.memory(), fixed, latest.here())?;
         Ok(Visited {
             is_on,
+            fixed,
+            latest,
             stops,
             keys: KeyTable::new(alloc),
             key: Vec::new(alloc),
         })
     }
 
-    /// Moves on to the place after the latest call.
-    pub(crate) fn go_on(&mut self, latest: &Record) -> Result<(), AllocError>
-        requires { (g : Setting) × (news : List NewRecord) × AreFollowed g news self.old }
+    /// Moves on to the place after the latest call, where the processors have these positions.
+    pub(crate) fn go_on(
+        &mut self,
+        alloc: Global,
+        latest: &Record,
+        positions: &Positions,
+        processors: u32,
+    ) -> Result<(), AllocError>
+        requires way { (g : Setting) × (news : List NewRecord) × AreFollowed g news self.old }
+        requires processors { processors ≡ length positions.now.cursors.items }
         ensures same { (self.new.is_on ≡ self.old.is_on) × (self.new.keys ≡ self.old.keys) }
         ensures kept { KeepStops self.old.stops self.new.stops }
         ensures ok { OnOk result ((g : Setting) (news : List NewRecord) → AreFollowed g news self.old
             → (self.old.is_on ≡ true → leaves_steps (effect_of latest.now.event) ≡ true)
+            → AreCursors g (news ++ latest.now ∷ []) positions.now.cursors.items
             → AreFollowed g (news ++ latest.now ∷ []) self.new) }
     {
         if !self.is_on {
             return Ok(());
         }
-        self.stops.go_on(latest)?;
+        self.stops.go_on(latest, self.fixed, self.latest.here())?;
+        self.latest.go_on(alloc, latest, positions, processors)?;
         Ok(())
     }
 
@@ -94,6 +114,7 @@ impl Visited {
     {
         if self.is_on {
             self.stops.go_back();
+            self.latest.go_back();
         }
     }
 
@@ -121,7 +142,8 @@ impl Visited {
         if !self.is_on {
             return Ok(false);
         }
-        self.stops.number_state(alloc, path.memory())?;
+        self.stops
+            .number_state(alloc, path.memory(), self.fixed, self.latest.here())?;
         if !self.write_key(path, schedule, processors, aim)? {
             return Ok(false);
         }
@@ -148,6 +170,7 @@ impl Visited {
         requires on { self.old.is_on ≡ true }
         ensures same { (self.new.is_on ≡ self.old.is_on) × (self.new.stops ≡ self.old.stops)
             × (self.new.keys ≡ self.old.keys) }
+        ensures way { AreFollowed path.now.setting path.now.news self.new }
         ensures ok { IfOk result (λ has. has ≡ true → IsPlaceKey path.now.setting
             (A.shows aim.now path.now.setting) self.new.stops path.now.news self.new.key.items) }
     {
@@ -160,6 +183,8 @@ impl Visited {
             path.scripts(),
             path.records(),
             processors,
+            self.fixed,
+            self.latest.here(),
             &mut self.key,
         )? {
             return Ok(false);
@@ -183,6 +208,8 @@ fn push_all_steering(
     scripts: &[CallScript],
     news: &[Record],
     processors: u32,
+    fixed: Serial,
+    latest: &[Serial],
     numbers: &mut Vec<u32>,
 ) -> Result<bool, AllocError>
     requires scripts { processors ≡ length scripts.now }
@@ -190,10 +217,10 @@ fn push_all_steering(
     ensures { IfOk result (λ fit. fit ≡ true → (part : List ℕ)
         × (numbers.new.items ≡ numbers.old.items ++ part)
         × ((g : Setting) → g.scripts ≡ scripts.now → AreCursors g news.now positions.now.cursors.items
-        → AreSteered g processors news.now part)) }
+        → AreSteered (number_of fixed latest.now) g processors news.now part)) }
 {
     for cpu in 0..processors {
-        if !positions.push_steering(scripts, news, cpu, numbers)? {
+        if !positions.push_steering(scripts, news, cpu, fixed, latest, numbers)? {
             return Ok(false);
         }
     }

@@ -28,7 +28,7 @@ frames_more xs ys =
     ∙ map-append (λ (r : Receipt). frame_in r.reply) (filter (λ (r : Receipt). takes_frame r.event) xs)
     (filter (λ (r : Receipt). takes_frame r.event) ys)
 
-operation_more : (xs ys later : List Receipt) → own_operation xs ≡ own_operation ys
+pub operation_more : (xs ys later : List Receipt) → own_operation xs ≡ own_operation ys
     → own_operation (xs ++ later) ≡ own_operation (ys ++ later)
 operation_more xs ys later same =
     fold-append later_operation 0 xs later
@@ -52,7 +52,7 @@ frames_plain (r ∷ rs) = by_event (takes_frame r.event) (frames_plain rs)
 -- ---- lines
 
 -- a line that works on a result works on the same one by both
-abbrev Agrees : (a b : Known) → Step → Type 0
+abbrev pub Agrees : (a b : Known) → Step → Type 0
 Agrees a b (Ask event) = Unit {0}
 Agrees a b (Own work) = work_of a work ≡ work_of b work
 Agrees a b (Carry plan turns) = Unit {0}
@@ -138,7 +138,7 @@ line_named a b f g more (Own (Free nth)) merges op first second same =
     ap (λ (n : ℕ). KernelFree n) frame
 line_named a b f g more (Carry plan turns) merges op first second same = tt
 
-all_named : (a b : Known) (f g more : List ℕ) (lines : List Step) → is_mergeable lines ≡ true
+pub all_named : (a b : Known) (f g more : List ℕ) (lines : List Step) → is_mergeable lines ≡ true
     → a.op ≡ b.op → a.frames ≡ f ++ more → b.frames ≡ g ++ more
     → flat_map (frames_named f) lines ≡ flat_map (frames_named g) lines → Agree a b lines
 all_named a b f g more [] merges op first second same = tt

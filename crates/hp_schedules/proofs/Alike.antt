@@ -1,44 +1,75 @@
 -- Schedules whose records are alike continue alike, and end alike.
-use Rattle.std.proofs.Common.{◌≡◌, ℕ, zero, suc, ◌+◌, ◌<◌, ◌≤◌, true, List, ◌∷◌, ◌++◌, length, map, filter, eqb, Option, Some, refl, ap, sym, ◌∙◌, arith}
-use Rattle.std.specs.Prelude.{flat_map, fold}
+use Rattle.std.proofs.Common.{◌≡◌, ℕ, zero, suc, ◌+◌, ◌<◌, ◌≤◌, true, List, [], ◌∷◌, ◌++◌, length, map, filter, eqb, Option, Some, None, refl, ap, sym, subst, ◌∙◌, arith}
+use Rattle.std.specs.Prelude.{flat_map, fold, option_map}
 use Rattle.std.specs.List.{range_with_len}
 use Rattle.std.proofs.lemmas.List.{map-append}
 use Rattle.std.proofs.lemmas.List.Elements.{filter-append}
 use Rattle.std.proofs.lemmas.Option.{slice_get_within}
 use Rattle.std.proofs.lemmas.Simd.{map-map}
 use Rattle.hp_units.specs.History.{net_of, run, value_of}
+use Rattle.hp_units.specs.LayoutParts.{LayoutParts}
 use Rattle.hp_units.specs.Memory.{Memory}
+use Rattle.hp_units.specs.declared.events.Event.{Event}
 use Rattle.hp_units.specs.Receipts.{receipt_of, receipts_of}
 use Rattle.hp_units.specs.declared.replies.Receipt.{Receipt}
 use Rattle.hp_units.specs.declared.replies.Record.{Record}
 use Rattle.hp_units.specs.declared.replies.Reply.{Reply}
-use Rattle.hp_schedules.specs.Alike.{AreAlike, AreMergeable, exchanges, is_mergeable, unnumbered}
-use Rattle.hp_schedules.specs.Continuing.{ContinueAlike}
+use Rattle.hp_renumbering.specs.Renumbered.{renumbered, renumbered_event}
+use Rattle.hp_renumbering.proofs.Alike.{its_own, own_differ, own_event, own_memory}
+use Rattle.hp_schedules.specs.Alike.{AreAlike, AreJoined, AreMergeable, exchanges, is_mergeable, unnumbered}
+use Rattle.hp_schedules.specs.Openings.{AreOpen, Opening, renumbered_opening}
+use Rattle.hp_schedules.specs.Continuing.{AreJoinedBy, AreSameBy, AreSameReceipts, ContinueAlike}
 use Rattle.hp_schedules.specs.Cursors.{frames_named}
 use Rattle.hp_schedules.specs.Outcomes.{OutcomeValue, ended_rows_below, replies_below, replies_to, told}
 use Rattle.hp_schedules.specs.Schedules.{EndsWith, Setting, next_call, outcome_after, play_one, plays}
 use Rattle.hp_schedules.specs.Scripts.{frames_of, known_of, next_in, next_of, own_operation}
 use Rattle.hp_schedules.specs.declared.scripts.Step.{Step}
-pub use Rattle.hp_schedules.proofs.Continuing.{call_leaves, event_kept}
-use Rattle.hp_schedules.proofs.Continuing.{GoesOnAs, goes_on_as, plays_from}
-use Rattle.hp_schedules.proofs.Continuing as continuing
+pub use Rattle.hp_schedules.proofs.SameCalls.{call_leaves, event_kept}
+use Rattle.hp_schedules.proofs.Continuing.{AreSameRecords, GoesOnAs, goes_on_as, plays_from}
+use Rattle.hp_schedules.proofs.JoinedBy.{IsSameRecord}
+use Rattle.hp_schedules.proofs.SameCalls as calls
 use Rattle.hp_schedules.proofs.Plays.{from_news, plays_on}
-use Rattle.hp_schedules.proofs.Agreeing.{frames_plain, next_agree, results_agree, script_mergeable}
+use Rattle.hp_schedules.proofs.Agreeing.{frames_plain, next_agree, operation_more, results_agree, script_mergeable}
 use Rattle.hp_schedules.proofs.Unnumbered.{next_plain}
 
 -- ---- alike records continue alike
 
-pub continue_alike : (g : Setting) (h k : List Record) → AreMergeable g.scripts → AreAlike g h k
-    → ContinueAlike g h k
-continue_alike g h k all alike = record {
+-- receipts that are the same with the numbers that operations have
+own_receipts : (rs ss : List Receipt) → AreSameReceipts its_own its_own rs ss → rs ≡ ss
+own_receipts [] [] same = refl
+own_receipts [] (s ∷ ss) same = absurd same
+own_receipts (r ∷ rs) [] same = absurd same
+own_receipts (r ∷ rs) (s ∷ ss) same =
+    ap (λ (n : ℕ). made n r.event r.reply ∷ rs) same.0.number
+    ∙ (ap (λ (e : Event). made s.serial e r.reply ∷ rs)
+    (sym (own_event r.event) ∙ (same.0.event ∙ own_event s.event))
+    ∙ (ap (λ (reply : Reply). made s.serial s.event reply ∷ rs) same.0.reply
+    ∙ ap (λ (rest : List Receipt). s ∷ rest) (own_receipts rs ss same.1)))
+  where
+    made : ℕ → Event → Reply → Receipt
+    made serial event reply = record { serial = serial; event = event; reply = reply }
+
+-- with the numbers that the operations have
+same_alike : (g : Setting) (h k : List Record) → AreMergeable g.scripts → AreAlike g h k
+    → AreSameBy its_own its_own g h k
+same_alike g h k all alike = record {
   calls = alike.calls;
-  begun = alike.begun;
-  ahead =
-      λ cpu lines here later. let within = slice_get_within g.scripts cpu lines here in
-      ahead g.layout.cpus lines (receipts_of cpu h) (receipts_of cpu k) later
-      (script_mergeable g.scripts cpu lines all here) (alike.begun cpu within)
-      (alike.exchanged cpu within);
-  nets = alike.nets;
+  later = λ n past. refl;
+  ahead = λ cpu lines here xs ys are.
+      let within = slice_get_within g.scripts cpu lines here in
+      let same = own_receipts xs ys are in
+      ap (option_map (renumbered_event its_own))
+      (ahead g.layout.cpus lines (receipts_of cpu h) (receipts_of cpu k) xs
+      (script_mergeable g.scripts cpu lines all here) (alike.begun cpu within) (alike.exchanged cpu within)
+      ∙ ap (λ (rs : List Receipt). next_of g.layout.cpus lines (receipts_of cpu k ++ rs)) same);
+  nets = record {
+    first_openings = alike.nets.openings;
+    second_openings = alike.nets.openings;
+    first_open = alike.nets.first_open;
+    second_open = alike.nets.second_open;
+    openings = refl;
+    state = ap (renumbered its_own) alike.nets.state;
+  };
 }
   where
     frames : (xs ys : List Receipt) → map unnumbered xs ≡ map unnumbered ys → frames_of xs ≡ frames_of ys
@@ -57,13 +88,30 @@ continue_alike g h k all alike = record {
         (results_agree xs ys later lines merges op
         (ap (λ (fs : List ℕ). flat_map (frames_named fs) lines) (frames xs ys same)))))
 
+pub continue_alike : (g : Setting) (h k : List Record) → AreMergeable g.scripts → AreAlike g h k
+    → ContinueAlike g h k
+continue_alike g h k all alike = record {
+  first_numbers = its_own;
+  second_numbers = its_own;
+  first_differ = own_differ;
+  second_differ = own_differ;
+  same = same_alike g h k all alike;
+}
+
 pub all_calls : (g : Setting) (h k : List Record) → AreAlike g h k
     → length (g.start ++ h) ≡ length (g.start ++ k)
-all_calls g h k alike = continuing.all_calls g h k alike.calls
+all_calls g h k alike = calls.all_calls g h k alike.calls
 
 pub call_same : (g : Setting) (h k : List Record) (cpu : ℕ) → AreMergeable g.scripts → AreAlike g h k
     → next_call g cpu h ≡ next_call g cpu k
-call_same g h k cpu all alike = continuing.call_same g h k cpu (continue_alike g h k all alike)
+call_same g h k cpu all alike =
+    sym (own_call (next_call g cpu h))
+    ∙ (calls.call_same its_own its_own g h k cpu (same_alike g h k all alike)
+    ∙ own_call (next_call g cpu k))
+  where
+    own_call : (o : Option Event) → option_map (renumbered_event its_own) o ≡ o
+    own_call None = refl
+    own_call (Some e) = ap Some (own_event e)
 
 -- ---- the same continuations
 
@@ -76,6 +124,61 @@ exchanged_on cpu h more =
     (filter (λ (r : Record). eqb r.cpu cpu) more))
     ∙ map-append unnumbered (receipts_of cpu h) (receipts_of cpu more)
 
+-- records that are the same with the numbers that operations have
+own_record : (r s : Record) → IsSameRecord its_own its_own r s → r ≡ s
+own_record r s one =
+    ap (λ (n : ℕ). made n r.cpu r.event r.reply) one.serial
+    ∙ (ap (λ (c : ℕ). made s.serial c r.event r.reply) one.cpu
+    ∙ (ap (λ (e : Event). made s.serial s.cpu e r.reply)
+    (sym (own_event r.event) ∙ (one.receipt.event ∙ own_event s.event))
+    ∙ ap (made s.serial s.cpu s.event) one.receipt.reply))
+  where
+    made : ℕ → ℕ → Event → Reply → Record
+    made serial cpu event reply = record { serial = serial; cpu = cpu; event = event; reply = reply }
+
+own_records : (rs ss : List Record) → AreSameRecords its_own its_own rs ss → rs ≡ ss
+own_records [] [] same = refl
+own_records [] (s ∷ ss) same = absurd same
+own_records (r ∷ rs) [] same = absurd same
+own_records (r ∷ rs) (s ∷ ss) same =
+    ap (λ (first : Record). first ∷ rs) (own_record r s same.0)
+    ∙ ap (λ (rest : List Record). s ∷ rest) (own_records rs ss same.1)
+
+own_openings : (os : List Opening) → map (renumbered_opening its_own) os ≡ os
+own_openings [] = refl
+own_openings (o ∷ os) =
+    ap (λ (m : Memory). record { op = o.op; memory = m } ∷ map (renumbered_opening its_own) os)
+    (own_memory o.memory)
+    ∙ ap (λ (rest : List Opening). o ∷ rest) (own_openings os)
+
+own_nets : (l : LayoutParts) (base : Memory) (a b : List Record) → AreJoinedBy its_own its_own l base a b
+    → AreJoined l base a b
+own_nets l base a b j = record {
+  openings = j.first_openings;
+  first_open = j.first_open;
+  second_open =
+      subst (λ (os : List Opening). AreOpen l base b os)
+      (sym (own_openings j.second_openings) ∙ (sym j.openings ∙ own_openings j.first_openings))
+      j.second_open;
+  state = sym (own_memory (run l base a)) ∙ (j.state ∙ own_memory (run l base b));
+}
+
+-- the operation that a processor began last, with further records
+begun_on : (cpu : ℕ) (h k more : List Record)
+    → own_operation (receipts_of cpu h) ≡ own_operation (receipts_of cpu k)
+    → own_operation (receipts_of cpu (h ++ more)) ≡ own_operation (receipts_of cpu (k ++ more))
+begun_on cpu h k more same =
+    ap own_operation (longer h)
+    ∙ (operation_more (receipts_of cpu h) (receipts_of cpu k) (receipts_of cpu more) same
+    ∙ sym (ap own_operation (longer k)))
+  where
+    longer : (news : List Record)
+        → receipts_of cpu (news ++ more) ≡ receipts_of cpu news ++ receipts_of cpu more
+    longer news =
+        ap (map receipt_of) (filter-append (λ (r : Record). eqb r.cpu cpu) news more)
+        ∙ map-append receipt_of (filter (λ (r : Record). eqb r.cpu cpu) news)
+        (filter (λ (r : Record). eqb r.cpu cpu) more)
+
 pub record PlaysAlike (g : Setting) (k : List Record) (rest : List ℕ) (end : List Record) : Type 0 where
   pub other : List Record
   pub played : from_news g k rest ≡ Some other
@@ -86,21 +189,33 @@ pub played_alike : (g : Setting) (rest : List ℕ) (h k end : List Record) → A
     → from_news g h rest ≡ Some end → PlaysAlike g k rest end
 played_alike g rest h k end all alike is = record {
   other = k ++ on.more;
-  played = on.played;
+  played = on.played ∙ ap (λ (more : List Record). Some (k ++ more)) (sym same);
   alike = record {
-    calls = on.alike.calls;
+    calls = end_alike.calls;
     exchanged =
         λ cpu within. ap (exchanges cpu) on.end_is
         ∙ (exchanged_on cpu h on.more
         ∙ (ap (λ (xs : List Receipt). xs ++ exchanges cpu on.more) (alike.exchanged cpu within)
         ∙ sym (exchanged_on cpu k on.more)));
-    begun = on.alike.begun;
-    nets = on.alike.nets;
+    begun =
+        λ cpu within. ap (λ (news : List Record). own_operation (receipts_of cpu news)) on.end_is
+        ∙ begun_on cpu h k on.more (alike.begun cpu within);
+    nets =
+        own_nets g.layout g.base (net_of (g.start ++ end)) (net_of (g.start ++ (k ++ on.more)))
+        end_alike.nets;
   };
 }
   where
-    on : GoesOnAs g rest h k end
-    on = goes_on_as g rest h k end all (continue_alike g h k all alike) is
+    on : GoesOnAs its_own its_own g rest h k end
+    on =
+        goes_on_as its_own its_own own_differ own_differ g rest h k end all (same_alike g h k all alike) is
+
+    same : on.more ≡ on.others
+    same = own_records on.more on.others on.same
+
+    end_alike : AreSameBy its_own its_own g end (k ++ on.more)
+    end_alike =
+        subst (λ (more : List Record). AreSameBy its_own its_own g end (k ++ more)) (sym same) on.alike
 
 -- ---- the same outcome
 

@@ -28,6 +28,7 @@ pub mod Placed
 pub mod Places
 pub mod Plays
 pub mod Regions
+pub mod SameCalls
 pub mod Shares
 pub mod Steering
 pub mod Steps
@@ -35,3 +36,6 @@ pub mod Trails
 pub mod Uniqueness
 pub mod Unnumbered
 pub mod UpTo
+pub mod JoinedBy
+pub mod RenumberedLines
+pub mod SameAnswers

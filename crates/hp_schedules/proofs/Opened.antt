@@ -4,23 +4,20 @@ use Rattle.std.specs.Prelude.{◌&&◌, option_map}
 use Rattle.std.proofs.lemmas.Bool.{eq-eqb, eqb-true}
 use Rattle.std.proofs.lemmas.List.{length-map, map-append, take-append-le, take_all}
 use Rattle.std.proofs.lemmas.Option.{slice_get_within}
-use Rattle.hp_units.specs.History.{Effect, Looks, Undoes, Cancels, Acts, cancel_reply, cut_or_add, effect_of, is_refused, net_with, net_with_effect, run}
+use Rattle.hp_units.specs.History.{cut_or_add, effect_of, is_refused, net_with, net_with_effect, run}
 use Rattle.hp_units.specs.LayoutParts.{LayoutParts}
 use Rattle.hp_units.specs.Marks.{begins, holds_only_own_work, is_opening, is_work_of, mark_of, sole_at, tag_of}
 use Rattle.hp_units.specs.Memory.{Memory}
-use Rattle.hp_units.specs.Step.{step}
 use Rattle.hp_units.specs.declared.events.Event.{Event}
 use Rattle.hp_units.specs.declared.events.Event.TheVariants.{Read, Begin, DrainFor, Migrate, Cancel, UndoAfter}
 use Rattle.hp_units.specs.declared.marks.Mark.{Mark}
 use Rattle.hp_units.specs.declared.marks.Mark.TheVariants.{Opens, Works, Other}
 use Rattle.hp_units.specs.declared.marks.Tag.{Tag}
 use Rattle.hp_units.specs.declared.replies.Record.{Record}
-use Rattle.hp_units.specs.declared.replies.Reply.{Reply}
-use Rattle.hp_laws.proofs.Net.{run-push}
 use Rattle.hp_laws.proofs.Records.{with_good}
 use Rattle.hp_laws.proofs.Replays.{net_bad}
 use Rattle.hp_laws.proofs.Undo.{sole_sound}
-use Rattle.hp_schedules.specs.Alike.{AreJoined, leaves_steps}
+use Rattle.hp_schedules.specs.Alike.{leaves_steps}
 use Rattle.hp_schedules.specs.Openings.{AreOpen, Opening, after_cancel, after_work, change_by, change_of}
 use Rattle.hp_schedules.specs.declared.changes.Change.TheVariants.{Stays, Ends}
 use Rattle.hp_schedules.proofs.Openings.{changed, openings_after}
@@ -239,81 +236,3 @@ none_after l base net r leaves ends = by_reply (is_refused r.reply) refl ends
     by_reply false is told =
         subst (λ (steps : List Record). AreOpen l base steps []) (sym (with_good net r is))
         (by_event r.event refl leaves told)
-
--- ---- nets that lead to the same states
-
--- a Cancel has the same reply
-pub cancelled_same : (l : LayoutParts) (base : Memory) (a b : List Record) (op : ℕ) (reply : Reply)
-    → AreJoined l base a b
-    → cancel_reply reply (sole_at op (map tag_of a)) ≡ cancel_reply reply (sole_at op (map tag_of b))
-cancelled_same l base a b op reply j = by_openings j.openings j.first_open j.second_open
-  where
-    by_openings : (os : List Opening) → AreOpen l base a os → AreOpen l base b os
-        → cancel_reply reply (sole_at op (map tag_of a)) ≡ cancel_reply reply (sole_at op (map tag_of b))
-    by_openings [] first second = ap (cancel_reply reply) (first op ∙ sym (second op))
-    by_openings (o ∷ os) first second =
-        ap (cancel_reply reply) (first.1 op)
-        ∙ (by_first (eqb o.op op) ∙ sym (ap (cancel_reply reply) (second.1 op)))
-      where
-        by_first : (b : Bool) → cancel_reply reply (cond b (Some first.0) None)
-            ≡ cancel_reply reply (cond b (Some second.0) None)
-        by_first true = refl
-        by_first false = refl
-
-pushed_same : (l : LayoutParts) (base : Memory) (a b : List Record) (r : Record)
-    → run l base a ≡ run l base b → run l base (a ++ r ∷ []) ≡ run l base (b ++ r ∷ [])
-pushed_same l base a b r same =
-    run-push l base a r
-    ∙ (ap (λ (s : Memory). (step l s r.serial r.cpu r.event).memory) same ∙ sym (run-push l base b r))
-
--- a Cancel leads to the same state
-cut_same : (l : LayoutParts) (base : Memory) (a b : List Record) (r : Record) (op : ℕ) → AreJoined l base a b
-    → run l base (cut_or_add a r (sole_at op (map tag_of a)))
-    ≡ run l base (cut_or_add b r (sole_at op (map tag_of b)))
-cut_same l base a b r op j = by_openings j.openings j.first_open j.second_open
-  where
-    added : run l base (a ++ r ∷ []) ≡ run l base (b ++ r ∷ [])
-    added = pushed_same l base a b r j.state
-
-    by_openings : (os : List Opening) → AreOpen l base a os → AreOpen l base b os
-        → run l base (cut_or_add a r (sole_at op (map tag_of a)))
-        ≡ run l base (cut_or_add b r (sole_at op (map tag_of b)))
-    by_openings [] first second =
-        ap (λ (found : Option ℕ). run l base (cut_or_add a r found)) (first op)
-        ∙ (added ∙ sym (ap (λ (found : Option ℕ). run l base (cut_or_add b r found)) (second op)))
-    by_openings (o ∷ os) first second =
-        ap (λ (found : Option ℕ). run l base (cut_or_add a r found)) (first.1 op)
-        ∙ (by_first (eqb o.op op)
-        ∙ sym (ap (λ (found : Option ℕ). run l base (cut_or_add b r found)) (second.1 op)))
-      where
-        by_first : (c : Bool) → run l base (cut_or_add a r (cond c (Some first.0) None))
-            ≡ run l base (cut_or_add b r (cond c (Some second.0) None))
-        by_first true = sym first.2 ∙ second.2
-        by_first false = added
-
--- and so does one record more
-pub joined_more : (l : LayoutParts) (base : Memory) (a b : List Record) (r : Record)
-    → leaves_steps (effect_of r.event) ≡ true → AreJoined l base a b
-    → AreJoined l base (net_with a r) (net_with b r)
-joined_more l base a b r leaves j = record {
-  openings = openings_after (run l base a) j.openings r;
-  first_open = open_more l base a j.openings r leaves j.first_open;
-  second_open =
-      subst (λ (s : Memory). AreOpen l base (net_with b r) (openings_after s j.openings r)) (sym j.state)
-      (open_more l base b j.openings r leaves j.second_open);
-  state = by_reply (is_refused r.reply) refl;
-}
-  where
-    by_effect : (effect : Effect) → leaves_steps effect ≡ true
-        → run l base (net_with_effect a r effect) ≡ run l base (net_with_effect b r effect)
-    by_effect Looks is = j.state
-    by_effect (Undoes serial) is = absurd cc
-    by_effect (Cancels op) is = cut_same l base a b r op j
-    by_effect Acts is = pushed_same l base a b r j.state
-
-    by_reply : (refused : Bool) → is_refused r.reply ≡ refused
-        → run l base (net_with a r) ≡ run l base (net_with b r)
-    by_reply true is = sym (ap (run l base) (net_bad a r is)) ∙ (j.state ∙ ap (run l base) (net_bad b r is))
-    by_reply false is =
-        ap (run l base) (with_good a r is)
-        ∙ (by_effect (effect_of r.event) leaves ∙ sym (ap (run l base) (with_good b r is)))

@@ -231,17 +231,17 @@ operation_at g news cursors cursor cpu here all =
 
 -- ---- the numbers of a processor's cursor
 
-pub steered_at : (g : Setting) (news : List Record) (cpu : ℕ) (scripts : List (List Step))
+pub steered_at : (f : ℕ → ℕ) (g : Setting) (news : List Record) (cpu : ℕ) (scripts : List (List Step))
     (lines shown : List Step) (cursors : List Cursor) (cursor : Cursor)
     → g.scripts ≡ scripts → slice_get scripts cpu ≡ Some lines → shown ≡ lines
     → slice_get cursors cpu ≡ Some cursor → AreCursors g news cursors
-    → IsSteered g cpu news (steering_of cursor ++ frames_ahead cursor shown (receipts_of cpu news))
-steered_at g news cpu scripts lines shown cursors cursor scripts_is here same there all ls script =
+    → IsSteered f g cpu news (steering_of f cursor ++ frames_ahead cursor shown (receipts_of cpu news))
+steered_at f g news cpu scripts lines shown cursors cursor scripts_is here same there all ls script =
     let read : shown ≡ ls =
     same
     ∙ same_Some lines ls
     (sym (ap (λ (xs : List (List Step)). slice_get xs cpu) scripts_is ∙ here) ∙ script) in (
       cursor,
       all.each cpu ls cursor script there,
-      ap (λ (xs : List Step). steering_of cursor ++ frames_ahead cursor xs (receipts_of cpu news)) read,
+      ap (λ (xs : List Step). steering_of f cursor ++ frames_ahead cursor xs (receipts_of cpu news)) read,
     )

@@ -1,166 +1,319 @@
 -- Positions with equal numbers: their scripts call the same after the same further receipts.
-use Rattle.std.proofs.Common.{◌≡◌, ℕ, ◌+◌, ◌-◌, ◌<◌, ltb, true, List, [], ◌∷◌, ◌++◌, drop, get_or, length, Option, Some, None, slice_get, refl, ap, sym, subst, ◌∙◌, arith}
-use Rattle.std.specs.Option.{option_map_or}
-use Rattle.std.specs.Prelude.{flat_map}
-use Rattle.std.proofs.lemmas.List.{append-nil, append_assoc, length-append}
+use Rattle.std.proofs.Common.{◌≡◌, ℕ, zero, suc, ◌+◌, ◌<◌, Bool, true, false, cond, List, [], ◌∷◌, ◌++◌, drop, filter, get_or, length, map, Some, slice_get, refl, ap, sym, subst, ◌∙◌, arith}
+use Rattle.std.specs.Prelude.{flat_map, fold, option_map}
+use Rattle.std.proofs.lemmas.Bool.{and_parts}
+use Rattle.std.proofs.lemmas.List.{length-append}
+use Rattle.std.proofs.lemmas.List.Sums.{fold-append}
 use Rattle.std.proofs.lemmas.Option.{slice_get_within}
 use Rattle.hp_laws.proofs.Lists.{get_some}
-use Rattle.hp_ops.specs.Stages.{key_of}
+use Rattle.hp_ops.specs.Stages.{event_in, key_of, stage_number, stage_op}
 use Rattle.hp_ops.specs.declared.stages.Driver.{Driver}
 use Rattle.hp_ops.specs.declared.stages.DriverKey.{DriverKey}
-use Rattle.hp_ops.proofs.Keys.{same_event, same_left}
-use Rattle.hp_ops.proofs.Receipts.{count_push, left_is, next_push}
-use Rattle.hp_units.specs.Driver.{next_event, tried}
+use Rattle.hp_ops.specs.declared.stages.Stage.{Stage}
+use Rattle.hp_ops.specs.declared.stages.Stage.TheVariants.{Begin as Begins, DrainFor as DrainsFor, Migrate as Migrates, Commit as Commits, Cancel as Cancels, Ended}
+use Rattle.hp_ops.proofs.Keys.{same_event}
 use Rattle.hp_units.specs.History.{net_of}
+use Rattle.hp_units.specs.Marks.{is_opening, mark_of}
 use Rattle.hp_units.specs.Receipts.{receipts_of}
-use Rattle.hp_units.specs.declared.events.Event.{Event}
 use Rattle.hp_units.specs.declared.plans.Item.{Item}
 use Rattle.hp_units.specs.declared.replies.Receipt.{Receipt}
 use Rattle.hp_units.specs.declared.replies.Record.{Record}
-use Rattle.hp_schedules.specs.Alike.{AreJoined, AreMergeable, is_mergeable}
-use Rattle.hp_schedules.specs.Continuing.{ContinueAlike}
+use Rattle.hp_renumbering.specs.Renumbered.{renumbered_event}
+use Rattle.hp_renumbering.proofs.Alike.{unseen_same}
+use Rattle.hp_schedules.specs.Alike.{AreMergeable, is_mergeable, is_mergeable_line}
+use Rattle.hp_schedules.specs.Continuing.{AreJoinedBy, AreSameBy, AreSameReceipts}
 use Rattle.hp_schedules.specs.Cursors.{IsInFirst, IsSteered, frames_ahead, frames_named, steering_of}
 use Rattle.hp_schedules.specs.Schedules.{Setting}
-use Rattle.hp_schedules.specs.Scripts.{Known, after_line, frames_of, known_of, line_next, next_in, next_of, own_operation}
+use Rattle.hp_schedules.specs.Scripts.{Known, frame_in, frames_of, known_of, later_operation, next_in, next_of, own_operation, step_work_of, takes_frame}
 use Rattle.hp_schedules.specs.Starts.{same_starts}
+use Rattle.hp_schedules.specs.declared.scripts.OwnWork.TheVariants.{Latest, Nth, Free}
 use Rattle.hp_schedules.specs.declared.scripts.Step.{Step}
 use Rattle.hp_schedules.specs.declared.scripts.Step.TheVariants.{Ask, Own, Carry}
-use Rattle.hp_schedules.proofs.Agreeing.{all_named_long, drop_mergeable, next_agree, results_agree, script_mergeable}
-use Rattle.hp_schedules.proofs.Unnumbered.{after_same}
+use Rattle.hp_schedules.specs.declared.scripts.StepWork.{StepWork}
+use Rattle.hp_schedules.specs.declared.scripts.StepWork.TheVariants as work
+use Rattle.hp_schedules.proofs.Agreeing.{Agree, Agrees, all_named, all_named_long, drop_mergeable, frames_more, script_mergeable}
+use Rattle.hp_schedules.proofs.RenumberedLines.{AgreeBy, AgreesBy, carried_alike, next_alike}
 
 -- ---- a driver
 
--- two runs after which the same event is next, and as many migrations are left
-pub record GoAlike (cpus turns : ℕ) (plan : List Item) (xs ys : List Receipt) : Type 0 where
-  pub next : next_event cpus turns plan xs ≡ next_event cpus turns plan ys
-  pub left : turns - tried xs ≡ turns - tried ys
+-- a stage of work on the operation's other number
+abbrev renumbered_stage : (ℕ → ℕ) → Stage → Stage
+renumbered_stage f (DrainsFor op cpu) = DrainsFor (f op) cpu
+renumbered_stage f (Migrates op) = Migrates (f op)
+renumbered_stage f (Commits op) = Commits (f op)
+renumbered_stage f (Cancels op) = Cancels (f op)
+renumbered_stage f stage = stage
 
--- with the same receipts more they are such runs again
-alike_push : (cpus turns : ℕ) (plan : List Item) (xs ys : List Receipt) (r : Receipt)
-    → GoAlike cpus turns plan xs ys → GoAlike cpus turns plan (xs ++ r ∷ []) (ys ++ r ∷ [])
-alike_push cpus turns plan xs ys r alike = record {
-  next =
-      next_push cpus turns plan xs r
-      ∙ (after_same cpus turns (xs ++ r ∷ []) (ys ++ r ∷ []) (is_left (xs ++ r ∷ [])
-      ∙ (ap (ltb 0) left ∙ sym (is_left (ys ++ r ∷ [])))) r.event r.reply
-      ∙ sym (next_push cpus turns plan ys r));
-  left = left;
-}
+abbrev renumbered_driver : (ℕ → ℕ) → Driver → Driver
+renumbered_driver f d =
+    record { cpus = d.cpus; left = d.left; why = d.why; stage = renumbered_stage f d.stage }
+
+stage_event : (f : ℕ → ℕ) (plan : List Item) (s : Stage)
+    → option_map (renumbered_event f) (event_in plan s) ≡ event_in plan (renumbered_stage f s)
+stage_event f plan Begins = refl
+stage_event f plan (DrainsFor op cpu) = refl
+stage_event f plan (Migrates op) = refl
+stage_event f plan (Commits op) = refl
+stage_event f plan (Cancels op) = refl
+stage_event f plan (Ended end) = refl
+
+stage_kept : (f : ℕ → ℕ) (s : Stage) → stage_number (renumbered_stage f s) ≡ stage_number s
+stage_kept f Begins = refl
+stage_kept f (DrainsFor op cpu) = refl
+stage_kept f (Migrates op) = refl
+stage_kept f (Commits op) = refl
+stage_kept f (Cancels op) = refl
+stage_kept f (Ended end) = refl
+
+-- the operation by the two numbers of a stage
+abbrev op_at : (number op : ℕ) → ℕ
+op_at zero op = 0
+op_at (suc zero) op = op
+op_at (suc (suc zero)) op = op
+op_at (suc (suc (suc zero))) op = op
+op_at (suc (suc (suc (suc zero)))) op = 0
+op_at (suc (suc (suc (suc (suc cpu))))) op = op
+
+stage_named : (f : ℕ → ℕ) (s : Stage)
+    → stage_op (renumbered_stage f s) ≡ op_at (stage_number s) (f (stage_op s))
+stage_named f Begins = refl
+stage_named f (Migrates op) = refl
+stage_named f (Commits op) = refl
+stage_named f (Cancels op) = refl
+stage_named f (Ended end) = refl
+stage_named f (DrainsFor op cpu) =
+    let from_five : suc (suc (suc (suc (suc cpu)))) ≡ 5 + cpu = omega arith in
+    ap (λ (n : ℕ). op_at n (f op)) from_five
+
+-- drivers with equal numbers ask for the same, as `p` and `q` number the operations
+pub record AreSameDrivers (p q : ℕ → ℕ) (d e : Driver) : Type 0 where
+  pub left : d.left ≡ e.left
+  pub stage : stage_number d.stage ≡ stage_number e.stage
+  pub op : p (stage_op d.stage) ≡ q (stage_op e.stage)
+
+pub drivers_ask : (p q : ℕ → ℕ) (d e : Driver) (plan : List Item) → AreSameDrivers p q d e
+    → option_map (renumbered_event p) (event_in plan d.stage)
+    ≡ option_map (renumbered_event q) (event_in plan e.stage)
+drivers_ask p q d e plan same =
+    stage_event p plan d.stage
+    ∙ (same_event (renumbered_driver p d) (renumbered_driver q e) plan keys
+    ∙ sym (stage_event q plan e.stage))
   where
-    left : turns - tried (xs ++ r ∷ []) ≡ turns - tried (ys ++ r ∷ [])
-    left = omega (arith, alike.left, count_push xs r, count_push ys r)
+    made : (left stage op : ℕ) → DriverKey
+    made left stage op = record { left = left; stage = stage; op = op }
 
-    is_left : (rs : List Receipt) → ltb (tried rs) turns ≡ ltb 0 (turns - tried rs)
-    is_left rs = left_is (tried rs) turns (turns - tried rs) refl (ltb (tried rs) turns) refl
+    numbers : stage_number (renumbered_stage p d.stage) ≡ stage_number (renumbered_stage q e.stage)
+    numbers = stage_kept p d.stage ∙ (same.stage ∙ sym (stage_kept q e.stage))
 
-alike_later : (cpus turns : ℕ) (plan : List Item) (xs ys later : List Receipt)
-    → GoAlike cpus turns plan xs ys → GoAlike cpus turns plan (xs ++ later) (ys ++ later)
-alike_later cpus turns plan xs ys [] alike =
-    subst (λ (rs : List Receipt). GoAlike cpus turns plan rs (ys ++ [])) (sym (append-nil xs))
-    (subst (λ (rs : List Receipt). GoAlike cpus turns plan xs rs) (sym (append-nil ys)) alike)
-alike_later cpus turns plan xs ys (r ∷ rs) alike =
-    subst (λ (zs : List Receipt). GoAlike cpus turns plan zs (ys ++ r ∷ rs)) (append_assoc xs (r ∷ []) rs)
-    (subst (λ (zs : List Receipt). GoAlike cpus turns plan ((xs ++ r ∷ []) ++ rs) zs)
-    (append_assoc ys (r ∷ []) rs) (alike_later cpus turns plan (xs ++ r ∷ []) (ys ++ r ∷ []) rs
-    (alike_push cpus turns plan xs ys r alike)))
+    ops : stage_op (renumbered_stage p d.stage) ≡ stage_op (renumbered_stage q e.stage)
+    ops =
+        stage_named p d.stage
+        ∙ (ap (λ (n : ℕ). op_at n (p (stage_op d.stage))) same.stage
+        ∙ (ap (op_at (stage_number e.stage)) same.op ∙ sym (stage_named q e.stage)))
+
+    keys : key_of (renumbered_driver p d) ≡ key_of (renumbered_driver q e)
+    keys =
+        ap (λ (n : ℕ).
+        made n (stage_number (renumbered_stage p d.stage)) (stage_op (renumbered_stage p d.stage))) same.left
+        ∙ (ap (λ (n : ℕ). made e.left n (stage_op (renumbered_stage p d.stage))) numbers
+        ∙ ap (made e.left (stage_number (renumbered_stage q e.stage))) ops)
 
 -- ---- lines
 
--- what the line of a plan leaves of the receipts
-pub rest_alike : (cpus : ℕ) (known : Known) (turns : ℕ) (plan : List Item) (xs ys later : List Receipt)
-    → GoAlike cpus turns plan xs ys → after_line cpus known (Carry plan turns) xs later
-    ≡ after_line cpus known (Carry plan turns) ys later
-rest_alike cpus known turns plan xs ys [] alike =
-    ap (λ (o : Option Event). option_map_or (λ event. None) o (Some [])) alike.next
-rest_alike cpus known turns plan xs ys (r ∷ rs) alike =
-    ap (λ (o : Option Event).
-    option_map_or (λ event. after_line cpus known (Carry plan turns) (xs ++ r ∷ []) rs) o (Some (r ∷ rs)))
-    alike.next
-    ∙ ap (λ (rest : Option (List Receipt)).
-    option_map_or (λ event. rest) (line_next cpus known (Carry plan turns) ys) (Some (r ∷ rs)))
-    (rest_alike cpus known turns plan (xs ++ r ∷ []) (ys ++ r ∷ []) rs
-    (alike_push cpus turns plan xs ys r alike))
-
--- what it and the lines after it call
-carried_alike : (cpus : ℕ) (known : Known) (turns : ℕ) (plan : List Item) (lines : List Step)
-    (xs ys later : List Receipt)
-    → after_line cpus known (Carry plan turns) [] (xs ++ later)
-    ≡ after_line cpus known (Carry plan turns) xs later
-    → after_line cpus known (Carry plan turns) [] (ys ++ later)
-    ≡ after_line cpus known (Carry plan turns) ys later
-    → GoAlike cpus turns plan xs ys → next_in cpus known (Carry plan turns ∷ lines) (xs ++ later)
-    ≡ next_in cpus known (Carry plan turns ∷ lines) (ys ++ later)
-carried_alike cpus known turns plan lines xs ys later first second alike =
-    ap (λ (o : Option (List Receipt)). option_map_or (λ rest. next_in cpus known lines rest) o
-    (line_next cpus known (Carry plan turns) (xs ++ later)))
-    (first ∙ (rest_alike cpus known turns plan xs ys later alike ∙ sym second))
-    ∙ ap (λ (o : Option Event). option_map_or (λ rest. next_in cpus known lines rest)
-    (after_line cpus known (Carry plan turns) [] (ys ++ later)) o)
-    (alike_later cpus turns plan xs ys later alike).next
-
 -- what lines call whose first one was begun alike
-begun_alike : (cpus : ℕ) (known : Known) (lines : List Step) (xs ys later : List Receipt) (d e : Driver)
-    → key_of d ≡ key_of e → IsInFirst cpus lines xs d → IsInFirst cpus lines ys e
-    → next_in cpus known lines (xs ++ later) ≡ next_in cpus known lines (ys ++ later)
-begun_alike cpus known [] xs ys later d e same first second = refl
-begun_alike cpus known (Ask event ∷ lines) xs ys later d e same first second =
-    ap (λ (rs : List Receipt). next_in cpus known (Ask event ∷ lines) (rs ++ later)) (first.0 ∙ sym second.0)
-begun_alike cpus known (Own work ∷ lines) xs ys later d e same first second =
-    ap (λ (rs : List Receipt). next_in cpus known (Own work ∷ lines) (rs ++ later)) (first.0 ∙ sym second.0)
-begun_alike cpus known (Carry plan turns ∷ lines) xs ys later d e same first second =
-    carried_alike cpus known turns plan lines xs ys later (first.1 known later) (second.1 known later)
+begun_alike : (p q : ℕ → ℕ) (cpus : ℕ) (a b : Known) (lines : List Step) (own given xs ys : List Receipt)
+    (d e : Driver)
+    → AreSameDrivers p q d e → IsInFirst cpus lines own d → IsInFirst cpus lines given e
+    → AgreeBy p q a b lines → AreSameReceipts p q xs ys
+    → option_map (renumbered_event p) (next_in cpus a lines (own ++ xs))
+    ≡ option_map (renumbered_event q) (next_in cpus b lines (given ++ ys))
+begun_alike p q cpus a b [] own given xs ys d e same first second agree are = refl
+begun_alike p q cpus a b (Ask event ∷ lines) own given xs ys d e same first second agree are =
+    ap (λ (rs : List Receipt).
+    option_map (renumbered_event p) (next_in cpus a (Ask event ∷ lines) (rs ++ xs))) first.0
+    ∙ (next_alike p q cpus a b (Ask event ∷ lines) xs ys agree are
+    ∙ sym (ap (λ (rs : List Receipt).
+    option_map (renumbered_event q) (next_in cpus b (Ask event ∷ lines) (rs ++ ys))) second.0))
+begun_alike p q cpus a b (Own work ∷ lines) own given xs ys d e same first second agree are =
+    ap (λ (rs : List Receipt). option_map (renumbered_event p) (next_in cpus a (Own work ∷ lines) (rs ++ xs)))
+    first.0
+    ∙ (next_alike p q cpus a b (Own work ∷ lines) xs ys agree are
+    ∙ sym (ap (λ (rs : List Receipt).
+    option_map (renumbered_event q) (next_in cpus b (Own work ∷ lines) (rs ++ ys))) second.0))
+begun_alike p q cpus a b (Carry plan turns ∷ lines) own given xs ys d e same first second agree are =
+    carried_alike p q cpus a b turns plan lines own given xs ys are (first.1 a xs) (second.1 b ys)
     (record {
-      next = sym (first.0.next plan) ∙ (same_event d e plan same ∙ second.0.next plan);
-      left = sym first.0.left ∙ (same_left d e same ∙ second.0.left);
+      next =
+          sym (ap (option_map (renumbered_event p)) (first.0.next plan))
+          ∙ (drivers_ask p q d e plan same ∙ ap (option_map (renumbered_event q)) (second.0.next plan));
+      left = sym first.0.left ∙ (same.left ∙ second.0.left);
     })
+    (λ rest left. next_alike p q cpus a b lines rest left agree.1)
+
+-- ---- results
+
+-- the operation that a processor began last, after the same further receipts
+operation_alike : (p q : ℕ → ℕ) (m n : ℕ) (xs ys : List Receipt) → p m ≡ q n → AreSameReceipts p q xs ys
+    → p (fold later_operation m xs) ≡ q (fold later_operation n ys)
+operation_alike p q m n [] [] op same = op
+operation_alike p q m n [] (s ∷ ys) op same = absurd same
+operation_alike p q m n (r ∷ xs) [] op same = absurd same
+operation_alike p q m n (r ∷ xs) (s ∷ ys) op same =
+    operation_alike p q (later_operation m r) (later_operation n s) xs ys next same.1
+  where
+    opens : is_opening (mark_of r.event) ≡ is_opening (mark_of s.event)
+    opens =
+        unseen_same (λ e. is_opening (mark_of e)) (λ op other drained. refl) (λ op other. refl)
+        (λ op other. refl) (λ op other. refl) p q r.event s.event same.0.event
+
+    by_mark : (b : Bool) → p (cond b r.serial m) ≡ q (cond b s.serial n)
+    by_mark true = same.0.number
+    by_mark false = op
+
+    next : p (later_operation m r) ≡ q (later_operation n s)
+    next =
+        by_mark (is_opening (mark_of r.event))
+        ∙ ap (λ (b : Bool). q (cond b s.serial n)) opens
+
+-- the frames that it took with them
+frames_alike : (p q : ℕ → ℕ) (xs ys : List Receipt) → AreSameReceipts p q xs ys → frames_of xs ≡ frames_of ys
+frames_alike p q [] [] same = refl
+frames_alike p q [] (s ∷ ys) same = absurd same
+frames_alike p q (r ∷ xs) [] same = absurd same
+frames_alike p q (r ∷ xs) (s ∷ ys) same =
+    by_event (takes_frame r.event) (frames_alike p q xs ys same.1)
+    ∙ ap (λ (b : Bool). map (λ (x : Receipt). frame_in x.reply)
+    (cond b (s ∷ filter (λ (x : Receipt). takes_frame x.event) ys)
+    (filter (λ (x : Receipt). takes_frame x.event) ys))) takes
+  where
+    takes : takes_frame r.event ≡ takes_frame s.event
+    takes =
+        unseen_same takes_frame (λ op other drained. refl) (λ op other. refl) (λ op other. refl)
+        (λ op other. refl) p q r.event s.event same.0.event
+
+    by_event : (b : Bool) → frames_of xs ≡ frames_of ys
+        → map (λ (x : Receipt). frame_in x.reply)
+        (cond b (r ∷ filter (λ (x : Receipt). takes_frame x.event) xs)
+        (filter (λ (x : Receipt). takes_frame x.event) xs))
+        ≡ map (λ (x : Receipt). frame_in x.reply)
+        (cond b (s ∷ filter (λ (x : Receipt). takes_frame x.event) ys)
+        (filter (λ (x : Receipt). takes_frame x.event) ys))
+    by_event true rest =
+        ap (λ (frame : ℕ). frame ∷ frames_of xs) (ap frame_in same.0.reply)
+        ∙ ap (λ (frames : List ℕ). frame_in s.reply ∷ frames) rest
+    by_event false rest = rest
+
+-- ---- lines that work on them
+
+-- an event that a line names is the same by `p` and by `q`
+abbrev pub IsNamedBy : (p q : ℕ → ℕ) → Step → Type 0
+IsNamedBy p q (Ask event) = renumbered_event p event ≡ renumbered_event q event
+IsNamedBy p q (Own work) = Unit {0}
+IsNamedBy p q (Carry plan turns) = Unit {0}
+
+abbrev pub AreNamedBy : (p q : ℕ → ℕ) → List Step → Type 0
+AreNamedBy p q [] = Unit {0}
+AreNamedBy p q (line ∷ lines) = IsNamedBy p q line × AreNamedBy p q lines
+
+drop_named : (p q : ℕ → ℕ) (k : ℕ) (lines : List Step) → AreNamedBy p q lines → AreNamedBy p q (drop k lines)
+drop_named p q zero lines named = named
+drop_named p q (suc k) [] named = tt
+drop_named p q (suc k) (line ∷ lines) named = drop_named p q k lines named.1
+
+-- the results that lines may work on, with another number for the operation
+abbrev renumbered_known : (ℕ → ℕ) → Known → Known
+renumbered_known f known = record { op = f known.op; begun = known.begun; frames = known.frames }
+
+step_renumbered : (f : ℕ → ℕ) (op : ℕ) (w : StepWork)
+    → renumbered_event f (step_work_of op w) ≡ step_work_of (f op) w
+step_renumbered f op (work.DrainFor cpu) = refl
+step_renumbered f op work.Migrate = refl
+step_renumbered f op work.Commit = refl
+step_renumbered f op work.Cancel = refl
+
+line_agrees : (p q : ℕ → ℕ) (a b : Known) (line : Step) → is_mergeable_line line ≡ true → IsNamedBy p q line
+    → Agrees (renumbered_known p a) (renumbered_known q b) line → AgreesBy p q a b line
+line_agrees p q a b (Ask event) merges named agrees = named
+line_agrees p q a b (Own (Latest w)) merges named agrees =
+    step_renumbered p a.op w ∙ (agrees ∙ sym (step_renumbered q b.op w))
+line_agrees p q a b (Own (Nth nth w)) merges named agrees = absurd cc
+line_agrees p q a b (Own (Free nth)) merges named agrees = agrees
+line_agrees p q a b (Carry plan turns) merges named agrees = tt
+
+lines_agree : (p q : ℕ → ℕ) (a b : Known) (lines : List Step) → is_mergeable lines ≡ true
+    → AreNamedBy p q lines → Agree (renumbered_known p a) (renumbered_known q b) lines
+    → AgreeBy p q a b lines
+lines_agree p q a b [] merges named agree = tt
+lines_agree p q a b (line ∷ lines) merges named agree = (
+  line_agrees p q a b line (and_parts _ _ merges).0 named.0 agree.0,
+  lines_agree p q a b lines (and_parts _ _ merges).1 named.1 agree.1,
+)
 
 -- ---- scripts
 
-abbrev pub key_in : List ℕ → DriverKey
-key_in numbers =
-    record { left = get_or numbers 2 0; stage = get_or numbers 3 0; op = get_or numbers 4 0 }
+-- the drivers of cursors with equal numbers
+pub drivers_of : (p q : ℕ → ℕ) (d e : Driver) (numbers others : List ℕ) → numbers ≡ others
+    → get_or numbers 2 0 ≡ d.left → get_or numbers 3 0 ≡ stage_number d.stage
+    → get_or numbers 4 0 ≡ p (stage_op d.stage)
+    → get_or others 2 0 ≡ e.left → get_or others 3 0 ≡ stage_number e.stage
+    → get_or others 4 0 ≡ q (stage_op e.stage)
+    → AreSameDrivers p q d e
+drivers_of p q d e numbers others same left stage op other_left other_stage other_op = record {
+  left = sym left ∙ (ap (λ (ns : List ℕ). get_or ns 2 0) same ∙ other_left);
+  stage = sym stage ∙ (ap (λ (ns : List ℕ). get_or ns 3 0) same ∙ other_stage);
+  op = sym op ∙ (ap (λ (ns : List ℕ). get_or ns 4 0) same ∙ other_op);
+}
 
-pub steered_alike : (g : Setting) (cpu : ℕ) (lines : List Step) (h k : List Record) (part : List ℕ)
-    → slice_get g.scripts cpu ≡ Some lines → is_mergeable lines ≡ true
-    → IsSteered g cpu h part → IsSteered g cpu k part
-    → (own_operation (receipts_of cpu h) ≡ own_operation (receipts_of cpu k))
-    × ((later : List Receipt) → next_of g.layout.cpus lines (receipts_of cpu h ++ later)
-    ≡ next_of g.layout.cpus lines (receipts_of cpu k ++ later))
-steered_alike g cpu lines h k part here merges first second =
+pub steered_alike : (p q : ℕ → ℕ) (g : Setting) (cpu : ℕ) (lines : List Step) (h k : List Record)
+    (part : List ℕ) (xs ys : List Receipt)
+    → slice_get g.scripts cpu ≡ Some lines → is_mergeable lines ≡ true → AreNamedBy p q lines
+    → IsSteered p g cpu h part → IsSteered q g cpu k part → AreSameReceipts p q xs ys
+    → option_map (renumbered_event p) (next_of g.layout.cpus lines (receipts_of cpu h ++ xs))
+    ≡ option_map (renumbered_event q) (next_of g.layout.cpus lines (receipts_of cpu k ++ ys))
+steered_alike p q g cpu lines h k part xs ys here merges named first second are =
     let a = first lines here in
     let b = second lines here in
     let same =
-    same_starts (steering_of a.0) (frames_ahead a.0 lines (receipts_of cpu h)) (steering_of b.0)
+    same_starts (steering_of p a.0) (frames_ahead a.0 lines (receipts_of cpu h)) (steering_of q b.0)
     (frames_ahead b.0 lines (receipts_of cpu k)) refl (sym a.2 ∙ b.2) in
     let line : a.0.line ≡ b.0.line = ap (λ (numbers : List ℕ). get_or numbers 0 0) same.0 in
-    let op_is : a.0.op ≡ b.0.op = ap (λ (numbers : List ℕ). get_or numbers 1 0) same.0 in
-    let op : own_operation (receipts_of cpu h) ≡ own_operation (receipts_of cpu k) =
-    sym a.1.begun ∙ (op_is ∙ b.1.begun) in
+    let op_is : p a.0.op ≡ q b.0.op = ap (λ (numbers : List ℕ). get_or numbers 1 0) same.0 in
+    let op : p (own_operation (receipts_of cpu h ++ xs)) ≡ q (own_operation (receipts_of cpu k ++ ys)) =
+    ap p (fold-append later_operation 0 (receipts_of cpu h) xs)
+    ∙ (operation_alike p q (own_operation (receipts_of cpu h)) (own_operation (receipts_of cpu k)) xs ys
+    (ap p (sym a.1.begun) ∙ (op_is ∙ ap q b.1.begun)) are
+    ∙ sym (ap q (fold-append later_operation 0 (receipts_of cpu k) ys))) in
     let frames : flat_map (frames_named (frames_of (receipts_of cpu h))) (drop b.0.line lines)
     ≡ flat_map (frames_named (frames_of (receipts_of cpu k))) (drop b.0.line lines) =
     ap (λ (n : ℕ). flat_map (frames_named (frames_of (receipts_of cpu h))) (drop n lines)) (sym line)
-    ∙ same.1 in (
-      op,
-      λ later.
-          let known = known_of (receipts_of cpu h ++ later) in
-          let other = known_of (receipts_of cpu k ++ later) in
-          a.1.ahead known later
-          ∙ (ap (λ (n : ℕ). next_in g.layout.cpus known (drop n lines) (a.1.own ++ later)) line
-          ∙ (begun_alike g.layout.cpus known (drop b.0.line lines) a.1.own b.1.own later a.0.driver
-          b.0.driver (ap key_in same.0)
-          (subst (λ (n : ℕ). IsInFirst g.layout.cpus (drop n lines) a.1.own a.0.driver) line a.1.here)
-          b.1.here
-          ∙ (next_agree g.layout.cpus known other (drop b.0.line lines) (b.1.own ++ later)
-          (results_agree (receipts_of cpu h) (receipts_of cpu k) later (drop b.0.line lines)
-          (drop_mergeable b.0.line lines merges) op frames)
-          ∙ sym (b.1.ahead other later)))),
-    )
+    ∙ same.1 in
+    let known = known_of (receipts_of cpu h ++ xs) in
+    let other = known_of (receipts_of cpu k ++ ys) in
+    let agree =
+    lines_agree p q known other (drop b.0.line lines) (drop_mergeable b.0.line lines merges)
+    (drop_named p q b.0.line lines named)
+    (all_named (renumbered_known p known) (renumbered_known q other) (frames_of (receipts_of cpu h))
+    (frames_of (receipts_of cpu k)) (frames_of xs) (drop b.0.line lines)
+    (drop_mergeable b.0.line lines merges) op (frames_more (receipts_of cpu h) xs)
+    (frames_more (receipts_of cpu k) ys
+    ∙ ap (λ (more : List ℕ). frames_of (receipts_of cpu k) ++ more) (sym (frames_alike p q xs ys are)))
+    frames) in
+    ap (option_map (renumbered_event p)) (a.1.ahead known xs)
+    ∙ (ap (λ (n : ℕ).
+    option_map (renumbered_event p) (next_in g.layout.cpus known (drop n lines) (a.1.own ++ xs))) line
+    ∙ (begun_alike p q g.layout.cpus known other (drop b.0.line lines) a.1.own b.1.own xs ys a.0.driver
+    b.0.driver
+    (drivers_of p q a.0.driver b.0.driver (steering_of p a.0) (steering_of q b.0) same.0 refl refl refl refl
+    refl refl)
+    (subst (λ (n : ℕ). IsInFirst g.layout.cpus (drop n lines) a.1.own a.0.driver) line a.1.here)
+    b.1.here agree are
+    ∙ sym (ap (option_map (renumbered_event q)) (b.1.ahead other ys))))
 
 -- numbers of one processor that begin a list are the same, and so is what follows them
-pub parts_apart : (g : Setting) (cpu : ℕ) (h k : List Record) (p q xs ys : List ℕ)
-    → cpu < length g.scripts → IsSteered g cpu h p → IsSteered g cpu k q → p ++ xs ≡ q ++ ys
+pub parts_apart : (f h : ℕ → ℕ) (g : Setting) (cpu : ℕ) (one other : List Record) (p q xs ys : List ℕ)
+    → cpu < length g.scripts → IsSteered f g cpu one p → IsSteered h g cpu other q → p ++ xs ≡ q ++ ys
     → (p ≡ q) × (xs ≡ ys)
-parts_apart g cpu h k p q xs ys within first second is =
+parts_apart f h g cpu one other p q xs ys within first second is =
     let script = get_some g.scripts cpu within in
     let a = first script.0 script.1 in
     let b = second script.0 script.1 in
@@ -169,31 +322,30 @@ parts_apart g cpu h k p q xs ys within first second is =
     (sym (ap (λ (zs : List ℕ). zs ++ xs) a.2) ∙ (is ∙ ap (λ (zs : List ℕ). zs ++ ys) b.2)) in
     same_starts p xs q ys
     (ap length a.2
-    ∙ (length-append (steering_of a.0) (frames_ahead a.0 script.0 (receipts_of cpu h))
+    ∙ (length-append (steering_of f a.0) (frames_ahead a.0 script.0 (receipts_of cpu one))
     ∙ (ap (λ (n : ℕ). 5 + n)
     (ap (λ (n : ℕ).
-    length (flat_map (frames_named (frames_of (receipts_of cpu h))) (drop n script.0))) line
-    ∙ all_named_long (frames_of (receipts_of cpu h)) (frames_of (receipts_of cpu k))
+    length (flat_map (frames_named (frames_of (receipts_of cpu one))) (drop n script.0))) line
+    ∙ all_named_long (frames_of (receipts_of cpu one)) (frames_of (receipts_of cpu other))
     (drop b.0.line script.0))
     ∙ sym (ap length b.2
-    ∙ length-append (steering_of b.0) (frames_ahead b.0 script.0 (receipts_of cpu k))))))
+    ∙ length-append (steering_of h b.0) (frames_ahead b.0 script.0 (receipts_of cpu other))))))
     is
 
--- beginnings after which equal numbers steer every processor, and whose nets join, continue alike
-pub steered_continue : (g : Setting) (h k : List Record) → AreMergeable g.scripts → length h ≡ length k
+-- beginnings after which equal numbers steer every processor, and whose nets join, are the same
+pub steered_same : (p q : ℕ → ℕ) (g : Setting) (h k : List Record) → AreMergeable g.scripts
+    → length h ≡ length k
+    → ((n : ℕ) → g.before + length (g.start ++ h) < n → p n ≡ q n)
+    → ((cpu : ℕ) (lines : List Step) → slice_get g.scripts cpu ≡ Some lines → AreNamedBy p q lines)
     → ((cpu : ℕ) → cpu < length g.scripts
-    → (part : List ℕ) × IsSteered g cpu h part × IsSteered g cpu k part)
-    → AreJoined g.layout g.base (net_of (g.start ++ h)) (net_of (g.start ++ k)) → ContinueAlike g h k
-steered_continue g h k all calls steered nets = record {
+    → (part : List ℕ) × IsSteered p g cpu h part × IsSteered q g cpu k part)
+    → AreJoinedBy p q g.layout g.base (net_of (g.start ++ h)) (net_of (g.start ++ k)) → AreSameBy p q g h k
+steered_same p q g h k all calls later named steered nets = record {
   calls = calls;
-  begun =
-      λ cpu within. let numbers = steered cpu within in
-      let script = get_some g.scripts cpu within in
-      (steered_alike g cpu script.0 h k numbers.0 script.1
-      (script_mergeable g.scripts cpu script.0 all script.1) numbers.1 numbers.2).0;
+  later = later;
   ahead =
-      λ cpu lines here later. let numbers = steered cpu (slice_get_within g.scripts cpu lines here) in
-      (steered_alike g cpu lines h k numbers.0 here (script_mergeable g.scripts cpu lines all here)
-      numbers.1 numbers.2).1 later;
+      λ cpu lines here xs ys are. let numbers = steered cpu (slice_get_within g.scripts cpu lines here) in
+      steered_alike p q g cpu lines h k numbers.0 xs ys here (script_mergeable g.scripts cpu lines all here)
+      (named cpu lines here) numbers.1 numbers.2 are;
   nets = nets;
 }

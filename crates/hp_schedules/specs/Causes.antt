@@ -17,14 +17,14 @@ use Rattle.hp_schedules.specs.declared.line_answers.LineAnswer.{LineAnswer}
 use Rattle.hp_schedules.specs.declared.scripts.Step.{Step}
 use Rattle.hp_schedules.specs.declared.scripts.Step.TheVariants.{Carry}
 
--- the last refusal of a migration or a commit in a line that carries a plan, given the line's own
+-- the last refusal of a migration or a commit in a line that carries a plan; `own` are the line's
 -- receipts
 abbrev pub cause_in_line : Step → List Receipt → Option Refusal
 cause_in_line (Carry plan turns) own = cause_of own
 cause_in_line line own = None
 
--- the same for the first unfinished one of these lines; the receipts are those since the first line
--- began
+-- the last such refusal in the first unfinished line; the receipts are a processor's since the first of
+-- these lines began
 abbrev pub cause_in : (cpus : ℕ) → List Step → List Receipt → Option Refusal
 cause_in cpus [] receipts = None
 cause_in cpus (line ∷ lines) receipts =
@@ -38,7 +38,7 @@ cause_at g cpu news =
     option_map_or (λ lines. cause_in g.layout.cpus lines (receipts_of cpu news)) (slice_get g.scripts cpu)
     None
 
--- the same, as a cursor at this line stores it
+-- the cause that a cursor at this line stores; None if the line is one call or its plan has ended
 abbrev pub met_at : Cursor → Step → Option Refusal
 met_at c line = cond (is_one_call line) None (cond (is_over c.driver.stage) None c.driver.why)
 
@@ -73,13 +73,13 @@ abbrev pub cause_numbers : Option Refusal → List ℕ
 cause_numbers None = 0 ∷ 0 ∷ []
 cause_numbers (Some refusal) = refusal_numbers refusal
 
--- these are the numbers of a processor's cause after the new records
+-- these two numbers give a processor's cause after the new records
 abbrev pub IsCaused : Setting → (cpu : ℕ) → List Record → List ℕ → Type 0
 IsCaused g cpu news numbers = numbers ≡ cause_numbers (cause_at g cpu news)
 
--- the same further records give a processor's lines the same further answers after both
-pub record AnswerAlike (g : Setting) (cpu : ℕ) (h k more : List Record) : Type 0 where
+-- the records `more` after h and `others` after k give a processor's lines the same further answers
+pub record AnswerAlike (g : Setting) (cpu : ℕ) (h k more others : List Record) : Type 0 where
   pub many : length (answers_at g cpu h) ≡ length (answers_at g cpu k)
   pub later : List (Option LineAnswer)
   pub first : answers_at g cpu (h ++ more) ≡ answers_at g cpu h ++ later
-  pub second : answers_at g cpu (k ++ more) ≡ answers_at g cpu k ++ later
+  pub second : answers_at g cpu (k ++ others) ≡ answers_at g cpu k ++ later

@@ -1,32 +1,89 @@
 -- Schedules after which everything continues alike, though the processors may have got different
--- replies.
-use Rattle.std.specs.Prelude.{◌≡◌, ℕ, ◌<◌, List, ◌++◌, Some, length, slice_get}
-use Rattle.hp_units.specs.History.{net_of, value_of}
+-- replies, and though operations may have different numbers.
+use Rattle.std.specs.Prelude.{◌≡◌, ℕ, ◌+◌, ◌<◌, List, [], ◌∷◌, ◌++◌, Some, length, map, slice_get}
+use Rattle.std.specs.Option.{option_map}
+use Rattle.hp_units.specs.History.{net_of, run, value_of}
+use Rattle.hp_units.specs.LayoutParts.{LayoutParts}
+use Rattle.hp_units.specs.Memory.{Memory}
 use Rattle.hp_units.specs.Receipts.{receipts_of}
+use Rattle.hp_units.specs.declared.events.Event.{Event}
 use Rattle.hp_units.specs.declared.replies.Receipt.{Receipt}
 use Rattle.hp_units.specs.declared.replies.Record.{Record}
-use Rattle.hp_schedules.specs.Alike.{AreJoined}
+use Rattle.hp_renumbering.specs.Renumbered.{IsOneToOne, renumbered, renumbered_event, renumbered_reply}
+use Rattle.hp_schedules.specs.Openings.{AreOpen, Opening, renumbered_opening}
+use Rattle.hp_schedules.specs.Outcomes.{ended_rows_below}
 use Rattle.hp_schedules.specs.Schedules.{Setting, next_call, plays}
-use Rattle.hp_schedules.specs.Scripts.{next_of, own_operation}
+use Rattle.hp_schedules.specs.Scripts.{next_of}
 use Rattle.hp_schedules.specs.declared.scripts.Step.{Step}
 
--- equally many records; each processor began its last operation with the same number, and will call
--- the same after any further receipts; and the nets join
-pub record ContinueAlike (g : Setting) (h k : List Record) : Type 0 where
-  pub calls : length h ≡ length k
-  pub begun : (cpu : ℕ) → cpu < length g.scripts
-      → own_operation (receipts_of cpu h) ≡ own_operation (receipts_of cpu k)
-  pub ahead : (cpu : ℕ) (lines : List Step) → slice_get g.scripts cpu ≡ Some lines
-      → (later : List Receipt) → next_of g.layout.cpus lines (receipts_of cpu h ++ later)
-      ≡ next_of g.layout.cpus lines (receipts_of cpu k ++ later)
-  pub nets : AreJoined g.layout g.base (net_of (g.start ++ h)) (net_of (g.start ++ k))
+-- two nets lead to the same state, and Cancels lead back from both to the same states, once `p`
+-- renumbers the first net's operations and `q` the second net's
+pub record AreJoinedBy (p q : ℕ → ℕ) (l : LayoutParts) (base : Memory) (first second : List Record)
+    : Type 0 where
+  pub first_openings : List Opening
+  pub second_openings : List Opening
+  pub first_open : AreOpen l base first first_openings
+  pub second_open : AreOpen l base second second_openings
+  pub openings : map (renumbered_opening p) first_openings ≡ map (renumbered_opening q) second_openings
+  pub state : renumbered p (run l base first) ≡ renumbered q (run l base second)
 
--- the same calls continue from both, record for record. If one schedule goes on to `end`, the other
--- goes on by the same records, to the same state, and there each processor calls the same
+-- two receipts are equal once `p` renumbers the operations in the first and `q` renumbers them in the
+-- second
+pub record IsSameReceipt (p q : ℕ → ℕ) (r s : Receipt) : Type 0 where
+  pub number : p r.serial ≡ q s.serial
+  pub event : renumbered_event p r.event ≡ renumbered_event q s.event
+  pub reply : r.reply ≡ s.reply
+  pub told : renumbered_reply p r.reply ≡ renumbered_reply q s.reply
+
+-- two lists have the same receipts, in the same order, in the sense of IsSameReceipt
+abbrev pub AreSameReceipts : (p q : ℕ → ℕ) → List Receipt → List Receipt → Type 0
+AreSameReceipts p q [] [] = Unit {0}
+AreSameReceipts p q [] (s ∷ others) = ⊥
+AreSameReceipts p q (r ∷ receipts) [] = ⊥
+AreSameReceipts p q (r ∷ receipts) (s ∷ others) = IsSameReceipt p q r s × AreSameReceipts p q receipts others
+
+-- the scripts go on alike after the records h and k, once `p` renumbers the operations in h, and `q`
+-- renumbers them in k: both have equally many calls, and their replies may differ. `p` and `q` agree on
+-- the serials of all later calls
+pub record AreSameBy (p q : ℕ → ℕ) (g : Setting) (h k : List Record) : Type 0 where
+  pub calls : length h ≡ length k
+  pub later : (n : ℕ) → g.before + length (g.start ++ h) < n → p n ≡ q n
+  -- after any further receipts that are the same, each processor makes the same call
+  pub ahead : (cpu : ℕ) (lines : List Step) → slice_get g.scripts cpu ≡ Some lines
+      → (xs ys : List Receipt) → AreSameReceipts p q xs ys
+      → option_map (renumbered_event p) (next_of g.layout.cpus lines (receipts_of cpu h ++ xs))
+      ≡ option_map (renumbered_event q) (next_of g.layout.cpus lines (receipts_of cpu k ++ ys))
+  pub nets : AreJoinedBy p q g.layout g.base (net_of (g.start ++ h)) (net_of (g.start ++ k))
+
+-- the scripts go on alike after h and k for some renumberings of the operations; their replies may
+-- differ
+pub record ContinueAlike (g : Setting) (h k : List Record) : Type 0 where
+  pub first_numbers : ℕ → ℕ
+  pub second_numbers : ℕ → ℕ
+  pub first_differ : IsOneToOne first_numbers
+  pub second_differ : IsOneToOne second_numbers
+  pub same : AreSameBy first_numbers second_numbers g h k
+
+-- the event without the number of the operation that it works on
+abbrev pub anonymous : Event → Event
+anonymous e = renumbered_event (λ op. 0) e
+
+-- the record without the number of the operation that its event works on
+abbrev pub anonymous_record : Record → Record
+anonymous_record r =
+    record { serial = r.serial; cpu = r.cpu; event = anonymous r.event; reply = r.reply }
+
+-- h goes on to `end`, and k goes on by the calls of `rest` in the same way: with the same serials and
+-- replies, though operations may have different numbers. Both ends go on alike: each processor calls
+-- the same, and the blocks have the same rows
 pub record ContinuesAs (g : Setting) (q rest : List ℕ) (h k end : List Record) : Type 0 where
   pub more : List Record
+  pub others : List Record
   pub end_is : end ≡ h ++ more
-  pub played : plays g (q ++ rest) ≡ Some (k ++ more)
-  pub alike : ContinueAlike g end (k ++ more)
-  pub calls : (cpu : ℕ) → next_call g cpu end ≡ next_call g cpu (k ++ more)
-  pub state : value_of g.layout g.base (g.start ++ end) ≡ value_of g.layout g.base (g.start ++ (k ++ more))
+  pub played : plays g (q ++ rest) ≡ Some (k ++ others)
+  pub same : map anonymous_record more ≡ map anonymous_record others
+  pub alike : ContinueAlike g end (k ++ others)
+  pub calls : (cpu : ℕ)
+      → option_map anonymous (next_call g cpu end) ≡ option_map anonymous (next_call g cpu (k ++ others))
+  pub rows : (blocks : ℕ) → ended_rows_below blocks (value_of g.layout g.base (g.start ++ end))
+      ≡ ended_rows_below blocks (value_of g.layout g.base (g.start ++ (k ++ others)))

@@ -19,31 +19,32 @@ use Rattle.hp_schedules.specs.declared.scripts.OwnWork.TheVariants.{Latest, Nth,
 use Rattle.hp_schedules.specs.declared.scripts.Step.{Step}
 use Rattle.hp_schedules.specs.declared.scripts.Step.TheVariants.{Ask, Own, Carry}
 
--- the event that a line calls next after its processor's receipts, and that of the cursor's own line;
--- None if there is no such event
+-- the event that a line calls next after its processor's receipts; None if there is no such event
 abbrev pub asks : List Receipt → Cursor → Step → Option Event
 asks receipts c (Ask event) = Some event
 asks receipts c (Own work) = Some (work_of (known_with c.op receipts) work)
 asks receipts c (Carry plan turns) = event_in plan c.driver.stage
 
+-- the event that the cursor's own line calls next
 abbrev pub asks_at : List Receipt → Cursor → List Step → Option Event
 asks_at receipts c lines = option_and_then (asks receipts c) (slice_get lines c.line)
 
--- a line's receipts so far, and the driver of its plan after them
+-- `own` are the line's receipts so far, and the driver has its plan's state after them
 abbrev pub IsIn : (cpus : ℕ) → Step → List Receipt → Driver → Type 0
 IsIn cpus (Ask event) own d = own ≡ []
 IsIn cpus (Own work) own d = own ≡ []
 IsIn cpus (Carry plan turns) own d = IsAfter cpus turns own d
 
--- the same for the first of several lines, which was not finished before its last receipt
+-- `own` are the receipts of the first line, which was not finished before the last of them
 abbrev pub IsInFirst : (cpus : ℕ) → List Step → List Receipt → Driver → Type 0
 IsInFirst cpus [] own d = Unit {0}
 IsInFirst cpus (line ∷ lines) own d =
     IsIn cpus line own d × ((known : Known) (later : List Receipt)
     → after_line cpus known line [] (own ++ later) ≡ after_line cpus known line own later)
 
--- a cursor is where a script is after its processor's receipts: the lines before it are finished, and
--- the lines from there on call what the script calls after these and any later receipts
+-- the cursor gives the script's position after its processor's receipts: the lines before it are
+-- finished, and the lines from there on make the same calls as the whole script after these and any
+-- later receipts
 pub record IsCursor (cpus : ℕ) (lines : List Step) (receipts : List Receipt) (c : Cursor) : Type 0 where
   pub own : List Receipt
   pub begun : c.op ≡ own_operation receipts
@@ -54,15 +55,17 @@ pub record IsCursor (cpus : ℕ) (lines : List Step) (receipts : List Receipt) (
   pub within : c.line ≤ length lines
   pub passed : (known : Known) → after_lines cpus known (take c.line lines) receipts ≡ Some own
 
--- the driver of a plan before its first call, that of a line at its beginning, and a cursor there
+-- the driver of a plan before its first call
 abbrev pub driver_before : (cpus turns : ℕ) → Driver
 driver_before cpus turns = record { cpus = cpus; left = turns; why = None; stage = Begins }
 
+-- the driver of a line before its first call
 abbrev pub first_driver : (cpus : ℕ) → Step → Driver
 first_driver cpus (Ask event) = driver_before cpus 0
 first_driver cpus (Own work) = driver_before cpus 0
 first_driver cpus (Carry plan turns) = driver_before cpus turns
 
+-- the cursor at the beginning of a line; `op` is the operation that its processor began last
 abbrev pub cursor_at : (cpus : ℕ) → List Step → (line op : ℕ) → Cursor
 cursor_at cpus lines line op = record {
   line = line;
@@ -70,12 +73,12 @@ cursor_at cpus lines line op = record {
   driver = option_map_or (first_driver cpus) (slice_get lines line) (driver_before cpus 0);
 }
 
--- what the cursor's own line calls next
+-- the next call of the cursor's own line, or None if it calls nothing more
 abbrev pub IsAsked : List Receipt → Cursor → List Step → Option NextCall → Type 0
 IsAsked receipts c lines None = asks_at receipts c lines ≡ None
 IsAsked receipts c lines (Some q) = (asks_at receipts c lines ≡ Some q.event) × (q.from ≡ c)
 
--- what a script calls after its receipts, with the position of the line that calls it
+-- the next call of a script after its receipts, with the position of the line that makes it
 abbrev pub IsRequested : (cpus : ℕ) → List Step → List Receipt → Option NextCall → Type 0
 IsRequested cpus lines receipts None = next_of cpus lines receipts ≡ None
 IsRequested cpus lines receipts (Some q) =
@@ -86,6 +89,7 @@ IsRequested cpus lines receipts (Some q) =
 abbrev pub carries : Cursor → Step → Bool
 carries c line = cond (is_one_call line) false (has_begun c.driver.stage)
 
+-- the line at the cursor is a plan whose driver has taken a reply
 abbrev pub is_carrying : Cursor → List Step → Bool
 is_carrying c lines = option_map_or (carries c) (slice_get lines c.line) false
 
@@ -93,14 +97,14 @@ is_carrying c lines = option_map_or (carries c) (slice_get lines c.line) false
 abbrev pub has_carried : Cursor → Step → Bool
 has_carried c line = cond (is_one_call line) false (is_over c.driver.stage)
 
--- the line of a plan with the plan's end, if the driver is at the end
+-- the plan's line with the answer to it, if the driver is at the plan's end
 abbrev pub carried : Cursor → Option FinishedLine
 carried c =
     cond (is_over c.driver.stage)
     (Some (record { line = c.line; answer = option_map Carried (end_in c.driver.stage) })) None
 
 -- a cursor stays at a plan's line when the plan has ended. So if it is at the beginning of a line, the
--- line before was one call
+-- line before that is one call
 abbrev pub IsSettled : List Step → Cursor → Type 0
 IsSettled lines c =
     is_carrying c lines ≡ false → (k : ℕ) (line : Step) → c.line ≡ k + 1 → slice_get lines k ≡ Some line
@@ -108,7 +112,7 @@ IsSettled lines c =
 
 -- ---- all processors
 
--- each cursor is where its processor's script is after the new records
+-- each cursor gives the position of its processor's script after the new records
 pub record AreCursors (g : Setting) (news : List Record) (cursors : List Cursor) : Type 0 where
   pub many : length cursors ≡ length g.scripts
   pub each : (cpu : ℕ) (lines : List Step) (c : Cursor)
@@ -117,14 +121,14 @@ pub record AreCursors (g : Setting) (news : List Record) (cursors : List Cursor)
   pub settled : (cpu : ℕ) (lines : List Step) (c : Cursor)
       → slice_get g.scripts cpu ≡ Some lines → slice_get cursors cpu ≡ Some c → IsSettled lines c
 
--- what the further calls of a cursor's script depend on, beside the replies to them: its line, the
--- operation that it began last, and its driver's key
-abbrev pub steering_of : Cursor → List ℕ
-steering_of c =
-    c.line ∷ c.op ∷ (key_of c.driver).left ∷ (key_of c.driver).stage ∷ (key_of c.driver).op ∷ []
+-- the numbers that decide a script's further calls, beside the replies to them: the cursor's line, the
+-- operation begun last, and the driver's key. `f` renumbers the operations
+abbrev pub steering_of : (f : ℕ → ℕ) → Cursor → List ℕ
+steering_of f c =
+    c.line ∷ f c.op ∷ (key_of c.driver).left ∷ (key_of c.driver).stage ∷ f (key_of c.driver).op ∷ []
 
--- for each line from there on that frees the frame of an earlier call: how many such calls the
--- processor has made, and the frame, if that call was among them
+-- two numbers for a line that frees the frame of an earlier call: the number of such calls that the
+-- processor has made, and the frame, if that call is among them
 abbrev pub frames_named : (frames : List ℕ) → Step → List ℕ
 frames_named frames (Ask event) = []
 frames_named frames (Own (Latest work)) = []
@@ -132,17 +136,20 @@ frames_named frames (Own (Nth nth work)) = []
 frames_named frames (Own (Free nth)) = length frames ∷ get_or frames nth no_frame ∷ []
 frames_named frames (Carry plan turns) = []
 
+-- the two numbers of each line from the cursor on that frees the frame of an earlier call
 abbrev pub frames_ahead : Cursor → List Step → List Receipt → List ℕ
 frames_ahead c lines receipts = flat_map (frames_named (frames_of receipts)) (drop c.line lines)
 
--- these are a processor's numbers after the new records
-abbrev pub IsSteered : Setting → (cpu : ℕ) → List Record → List ℕ → Type 0
-IsSteered g cpu news numbers =
+-- the numbers that decide a processor's further calls after the new records; `f` renumbers the
+-- operations
+abbrev pub IsSteered : (f : ℕ → ℕ) → Setting → (cpu : ℕ) → List Record → List ℕ → Type 0
+IsSteered f g cpu news numbers =
     (lines : List Step) → slice_get g.scripts cpu ≡ Some lines
     → (c : Cursor) × IsCursor g.layout.cpus lines (receipts_of cpu news) c
-    × (numbers ≡ steering_of c ++ frames_ahead c lines (receipts_of cpu news))
+    × (numbers ≡ steering_of f c ++ frames_ahead c lines (receipts_of cpu news))
 
--- what a processor's script calls after the new records, with the position of the line
+-- the next call of a processor's script after the new records, with the position of the line that makes
+-- it
 abbrev pub IsCalledFor : Setting → (cpu : ℕ) → List Record → Option NextCall → Type 0
 IsCalledFor g cpu news None = next_call g cpu news ≡ None
 IsCalledFor g cpu news (Some q) =

@@ -1,5 +1,5 @@
--- What a script calls after its processor's receipts.
-use Rattle.std.specs.Prelude.{ℕ, Bool, true, false, if◌then◌else◌, List, [], ◌∷◌, ◌++◌, Option, Some, None, filter, fold, get_or, map}
+-- The calls of a script, which follow from its processor's receipts.
+use Rattle.std.specs.Prelude.{ℕ, Bool, true, false, if◌then◌else◌, List, [], ◌∷◌, ◌++◌, Option, Some, None, filter, fold, get_or, map, nat_lt}
 use Rattle.std.specs.Option.{option_and_then, option_map_or}
 use Rattle.hp_units.specs.Driver.{next_event}
 use Rattle.hp_units.specs.Marks.{is_opening, mark_of}
@@ -15,10 +15,13 @@ use Rattle.hp_schedules.specs.declared.scripts.Step.TheVariants.{Ask, Own, Carry
 use Rattle.hp_schedules.specs.declared.scripts.StepWork.{StepWork}
 use Rattle.hp_schedules.specs.declared.scripts.StepWork.TheVariants.{DrainFor, Migrate, Commit, Cancel}
 
--- the operation that a processor began last: the serial of its last Begin, refused or not; else 0
+-- the operation that a processor began last, after one more receipt: its serial if it is a Begin,
+-- refused or not
 abbrev pub later_operation : ℕ → Receipt → ℕ
 later_operation op r = if is_opening (mark_of r.event) then r.serial else op
 
+-- the operation that a processor began last: the serial of its last Begin, refused or not; 0 without
+-- one
 abbrev pub own_operation : List Receipt → ℕ
 own_operation receipts = fold later_operation 0 receipts
 
@@ -26,45 +29,52 @@ own_operation receipts = fold later_operation 0 receipts
 abbrev pub operations_of : List Receipt → List ℕ
 operations_of receipts = map (λ r. r.serial) (filter (λ r. is_opening (mark_of r.event)) receipts)
 
--- the frames that a processor took for the kernel, in order. A refusal gives a frame of no layout
+-- the event takes a frame for the kernel
 abbrev pub takes_frame : Event → Bool
 takes_frame (KernelAlloc order) = true
 takes_frame event = false
 
+-- a frame that no layout has: the result of a refused request for a frame
 abbrev pub no_frame : ℕ
 no_frame = 4294967295
 
+-- the frame in a reply, or the frame that no layout has
 abbrev pub frame_in : Reply → ℕ
 frame_in (Frame frame) = frame
 frame_in reply = no_frame
 
+-- the frames that a processor took for the kernel, in order, with `no_frame` for each refusal
 abbrev pub frames_of : List Receipt → List ℕ
 frames_of receipts = map (λ r. frame_in r.reply) (filter (λ r. takes_frame r.event) receipts)
 
--- the results of a processor's calls that its lines may work on
+-- the operations and frames from a processor's calls that its lines may work on
 pub record Known : Type 0 where
   pub op : ℕ
   pub begun : List ℕ
   pub frames : List ℕ
 
+-- the operations and frames that the receipts give, with `op` as the operation begun last
 abbrev pub known_with : (op : ℕ) → List Receipt → Known
 known_with op receipts =
     record { op = op; begun = operations_of receipts; frames = frames_of receipts }
 
+-- the operations and frames that the receipts give
 abbrev pub known_of : List Receipt → Known
 known_of receipts = known_with (own_operation receipts) receipts
 
+-- no operations and no frames
 abbrev pub nothing_known : Known
 nothing_known = record { op = 0; begun = []; frames = [] }
 
--- the event of work on an operation, and that of a line's work on a result. If no result has this
--- number, the operation is 0, or the frame is one that no layout has
+-- the event of some work on the operation `op`
 abbrev pub step_work_of : (op : ℕ) → StepWork → Event
 step_work_of op (DrainFor cpu) = DrainsFor op cpu
 step_work_of op Migrate = Migrates op
 step_work_of op Commit = Commits op
 step_work_of op Cancel = Cancels op
 
+-- the event of a line's work on an earlier result. If no result has the line's number, the operation is
+-- 0 and the frame is one that no layout has
 abbrev pub work_of : Known → OwnWork → Event
 work_of known (Latest work) = step_work_of known.op work
 work_of known (Nth nth work) = step_work_of (get_or known.begun nth 0) work
@@ -75,14 +85,14 @@ abbrev pub once : Event → List Receipt → Option Event
 once event [] = Some event
 once event (r ∷ rs) = None
 
--- the next event of a line after its own receipts; None if it is finished. A plan's line is a
--- driver's run
+-- the next event of a line after its own receipts; None if it is finished. A line with a plan makes the
+-- calls that its driver asks for
 abbrev pub line_next : (cpus : ℕ) → Known → Step → List Receipt → Option Event
 line_next cpus known (Ask event) receipts = once event receipts
 line_next cpus known (Own work) receipts = once (work_of known work) receipts
 line_next cpus known (Carry plan turns) receipts = next_event cpus turns plan receipts
 
--- the receipts that are left after a line is finished; None if it needs all of them and goes on
+-- the receipts that a line leaves once it is finished; None if it takes all of them and goes on
 abbrev pub after_line : (cpus : ℕ) → Known → Step → (earlier later : List Receipt) → Option (List Receipt)
 after_line cpus known line earlier [] =
     option_map_or (λ event. None) (line_next cpus known line earlier) (Some [])
@@ -90,13 +100,14 @@ after_line cpus known line earlier (r ∷ rs) =
     option_map_or (λ event. after_line cpus known line (earlier ++ r ∷ []) rs)
     (line_next cpus known line earlier) (Some (r ∷ rs))
 
--- the same of several lines, one after another
+-- the receipts that several lines, one after another, leave once they are finished; None if they are
+-- not
 abbrev pub after_lines : (cpus : ℕ) → Known → List Step → List Receipt → Option (List Receipt)
 after_lines cpus known [] receipts = Some receipts
 after_lines cpus known (line ∷ lines) receipts =
     option_and_then (λ rest. after_lines cpus known lines rest) (after_line cpus known line [] receipts)
 
--- the next event of the lines, given the receipts since the first of them began
+-- the next event of the lines; the receipts are a processor's since the first of these lines began
 abbrev pub next_in : (cpus : ℕ) → Known → List Step → List Receipt → Option Event
 next_in cpus known [] receipts = None
 next_in cpus known (line ∷ lines) receipts =
@@ -106,3 +117,29 @@ next_in cpus known (line ∷ lines) receipts =
 -- the next event of a script after its processor's receipts
 abbrev pub next_of : (cpus : ℕ) → List Step → List Receipt → Option Event
 next_of cpus lines receipts = next_in cpus (known_of receipts) lines receipts
+
+-- the operation that an event works on, or 0
+abbrev pub named_by : Event → ℕ
+named_by (DrainsFor op cpu) = op
+named_by (Migrates op) = op
+named_by (Commits op) = op
+named_by (Cancels op) = op
+named_by event = 0
+
+-- the operation that a line names by its number, or 0
+abbrev pub named_in : Step → ℕ
+named_in (Ask event) = named_by event
+named_in (Own work) = 0
+named_in (Carry plan turns) = 0
+
+-- the greater of two numbers
+abbrev pub greater : ℕ → ℕ → ℕ
+greater n m = if nat_lt n m then m else n
+
+-- the greatest operation that a script's lines name by number, or `least` if that is greater
+abbrev pub greatest_in : (least : ℕ) → List Step → ℕ
+greatest_in least lines = fold (λ n line. greater n (named_in line)) least lines
+
+-- the greatest operation that any script names by number, or 0
+abbrev pub greatest_named : List (List Step) → ℕ
+greatest_named scripts = fold greatest_in 0 scripts

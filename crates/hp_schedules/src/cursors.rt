@@ -1,9 +1,10 @@
 //! A processor's position in its script.
-ghost use Rattle.std.specs.Prelude.{◌≡◌, ◌++◌, ◌∷◌, ℕ, true, [], IfOk, List, Some, length, slice_get};
+ghost use Rattle.std.specs.Prelude.{◌≡◌, ◌++◌, ◌∷◌, ℕ, true, [], IfOk, IfSome, List, Some, length, slice_get};
 ghost use Rattle.std.specs.Option.{option_map_or};
 ghost use Rattle.hp_units.specs.Receipts.{receipt_of, receipts_of};
 ghost use Rattle.hp_units.specs.declared.events.Event.{Event as AnyEvent};
 ghost use Rattle.hp_units.specs.declared.replies.Receipt.{Receipt};
+ghost use Rattle.hp_renumbering.specs.Numberings.{number_of};
 ghost use Rattle.hp_schedules.specs.Causes.{cause_in, met_at};
 ghost use Rattle.hp_schedules.specs.Cursors.{IsAsked, IsCursor, IsRequested, IsSettled, asks, asks_at, carried, cursor_at, driver_before, first_driver, frames_ahead, frames_named, has_carried, is_carrying, steering_of};
 ghost use Rattle.hp_schedules.specs.LineAnswers.{IsAnswered, answers_in};
@@ -13,6 +14,7 @@ use crate::line_answers::{FinishedLine, LineAnswer, plan_answer};
 use crate::results::{frame_count, nth_frame};
 use crate::scripts::{CallScript, OwnWork, Step, later_operation};
 use hp_ops::Driver;
+use hp_renumbering::number_of;
 use hp_units::{Cpu, Event, Record, Refusal, Reply, Serial};
 use std::alloc::{AllocError, Global};
 
@@ -115,18 +117,21 @@ impl Cursor {
         }
     }
 
-    /// Returns the numbers that the further calls depend on, beside the replies to them.
-    pub(crate) fn steering(&self) -> [u64; 5]
-        ensures { result ≡ steering_of self.now }
+    /// Returns the numbers that the further calls depend on, beside the replies to them. `fixed`
+    /// and `latest` number the operations. Returns `None` if the number of one is 2^64 or greater.
+    pub(crate) fn steering(&self, fixed: Serial, latest: &[Serial]) -> Option<[u64; 5]>
+        ensures { IfSome result (λ numbers. numbers ≡ steering_of (number_of fixed latest.now) self.now) }
     {
         let key = self.driver.key();
-        [
+        let begun = number_of(fixed, latest, self.op)?;
+        let worked = number_of(fixed, latest, key.op)?;
+        Some([
             self.line as u64,
-            self.op.0,
+            begun,
             u64::from(key.left),
             key.stage,
-            key.op.0,
-        ]
+            worked,
+        ])
     }
 
     /// Appends the numbers of `push_named` for each line from the cursor's on, and returns whether

@@ -1,10 +1,10 @@
 //! Laws of schedules, as contracts of functions with empty bodies.
-ghost use Rattle.std.specs.Prelude.{◌≡◌, ◌≢◌, ◌↔◌, ◌++◌, ◌∷◌, ℕ, [], List, Some};
+ghost use Rattle.std.specs.Prelude.{◌≡◌, ◌≢◌, ◌↔◌, ◌++◌, ◌∷◌, ℕ, [], List, Some, map};
 ghost use Rattle.hp_units.specs.declared.replies.Receipt.{Receipt};
 ghost use Rattle.hp_units.specs.declared.replies.Record.{Record};
 ghost use Rattle.hp_schedules.specs.Alike.{AreAlike, AreMergeable};
 ghost use Rattle.hp_schedules.specs.Causes.{AnswerAlike, IsCaused};
-ghost use Rattle.hp_schedules.specs.Continuing.{ContinueAlike, ContinuesAs};
+ghost use Rattle.hp_schedules.specs.Continuing.{ContinueAlike, ContinuesAs, anonymous_record};
 ghost use Rattle.hp_schedules.specs.Cursors.{IsSteered};
 ghost use Rattle.hp_schedules.specs.LineAnswers.{Grow, answers_at};
 ghost use Rattle.hp_schedules.specs.Orders.{HasCount, HasOneCount};
@@ -69,9 +69,11 @@ pub fn answers_only_grow()
 
 /// If `push_steering` and `push_causes` give a processor equal numbers after two beginnings, both
 /// have finished equally many of its lines. If the same records follow both, they give its further
-/// lines the same answers.
+/// lines the same answers. The operations that these records work on may have different numbers.
 pub fn alike_positions_answer_alike()
-    ensures { (g : Setting) (cpu : ℕ) (h k more : List Record) (steering causes : List ℕ)
-        → IsSteered g cpu h steering → IsSteered g cpu k steering
-        → IsCaused g cpu h causes → IsCaused g cpu k causes → AnswerAlike g cpu h k more }
+    ensures { (p q : ℕ → ℕ) (g : Setting) (cpu : ℕ) (h k more others : List Record)
+        (steering causes : List ℕ)
+        → IsSteered p g cpu h steering → IsSteered q g cpu k steering
+        → IsCaused g cpu h causes → IsCaused g cpu k causes
+        → map anonymous_record more ≡ map anonymous_record others → AnswerAlike g cpu h k more others }
 {}

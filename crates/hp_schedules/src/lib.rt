@@ -45,6 +45,6 @@ pub use outcomes::{Outcome, Replies, all_answers};
 pub use part_numbers::ShardId;
 pub use parts::Shard;
 pub use positions::Positions;
-pub use scripts::{CallScript, OwnWork, Step, StepWork, are_mergeable};
+pub use scripts::{CallScript, OwnWork, Step, StepWork, are_mergeable, greatest_named};
 pub use tally::{Ending, Tally, fit_in, schedule_of, total_of};
 pub use trail::Share;

@@ -2,6 +2,7 @@
 ghost use Rattle.std.specs.Prelude.{◌≡◌, ◌<◌, ◌++◌, ◌∷◌, ℕ, true, [], IfOk, List, OnOk, Some, length, map, slice_set};
 ghost use Rattle.hp_units.specs.Receipts.{receipts_of};
 ghost use Rattle.hp_units.specs.declared.replies.Record.{Record as NewRecord};
+ghost use Rattle.hp_renumbering.specs.Numberings.{number_of};
 ghost use Rattle.hp_schedules.specs.Causes.{IsCaused};
 ghost use Rattle.hp_schedules.specs.Cursors.{AreCursors, IsCalledFor, IsSteered, cursor_at};
 ghost use Rattle.hp_schedules.specs.LineAnswers.{IsAnswered, answers_at};
@@ -95,11 +96,14 @@ impl Positions {
     /// and returns whether each fits 32 bits. If not, `numbers` holds a part of them.
     ///
     /// They are five, and two more for each further line that frees the frame of an earlier call.
+    /// `fixed` and `latest` number the operations, as [`number_of`](hp_renumbering::number_of) does.
     pub fn push_steering(
         &self,
         scripts: &[CallScript],
         news: &[Record],
         cpu: u32,
+        fixed: Serial,
+        latest: &[Serial],
         numbers: &mut Vec<u32>,
     ) -> Result<bool, AllocError>
         requires scripts { cpu < length scripts.now }
@@ -107,11 +111,13 @@ impl Positions {
         ensures { IfOk result (λ fit. fit ≡ true → (part : List ℕ)
             × (numbers.new.items ≡ numbers.old.items ++ part)
             × ((g : Setting) → g.scripts ≡ scripts.now → AreCursors g news.now self.now.cursors.items
-            → IsSteered g cpu news.now part)) }
+            → IsSteered (number_of fixed latest.now) g cpu news.now part)) }
     {
         let place = cpu as usize;
         let cursor = &self.cursors[place];
-        let steering = cursor.steering();
+        let Some(steering) = cursor.steering(fixed, latest) else {
+            return Ok(false);
+        };
         for number in &steering {
             let Ok(number) = u32::try_from(*number) else {
                 return Ok(false);

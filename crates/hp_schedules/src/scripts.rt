@@ -5,7 +5,7 @@ ghost use Rattle.hp_units.specs.Marks.{is_opening, mark_of};
 ghost use Rattle.hp_units.specs.Receipts.{receipts_of};
 ghost use Rattle.hp_schedules.specs.Alike.{is_mergeable, is_mergeable_line};
 ghost use Rattle.hp_schedules.specs.Interleavings.{holds_no_plan, is_one_call};
-ghost use Rattle.hp_schedules.specs.Scripts.{known_with, step_work_of, work_of};
+ghost use Rattle.hp_schedules.specs.Scripts.{greatest_in, greatest_named, known_with, named_in, step_work_of, work_of};
 
 use crate::results::{nth_begun, nth_frame};
 use hp_units::{Cpu, Event, Plan, Record, Serial, mark_of};
@@ -103,6 +103,22 @@ impl Step {
         !matches!(self, Step::Carry { .. })
     }
 
+    /// Returns the operation that the line names by its number, or 0 if it names none.
+    fn named(&self) -> Serial
+        ensures { result ≡ named_in self.now }
+    {
+        let Step::Ask(event) = self else {
+            return Serial(0);
+        };
+        match event {
+            Event::DrainFor { op, .. } => *op,
+            Event::Migrate { op } => *op,
+            Event::Commit { op } => *op,
+            Event::Cancel { op } => *op,
+            _ => Serial(0),
+        }
+    }
+
     /// Returns whether the line neither undoes steps by their serials (`UndoAfter`) nor works on an
     /// operation by the number of its Begin (`Nth`).
     ///
@@ -141,6 +157,21 @@ impl CallScript {
         lines.as_slice()
     }
 
+    /// Returns the greatest operation that a line names by its number, or `least` if that is
+    /// greater.
+    fn greatest_named(&self, least: Serial) -> Serial
+        ensures { result ≡ greatest_in least self.now }
+    {
+        let mut greatest = least;
+        for line in self.lines() {
+            let named = line.named();
+            if greatest.0 < named.0 {
+                greatest = named;
+            }
+        }
+        greatest
+    }
+
     /// Returns whether each line is one call.
     pub(crate) fn holds_no_plan(&self) -> bool
         ensures { result ≡ holds_no_plan self.now }
@@ -176,6 +207,19 @@ pub(crate) fn later_operation(op: Serial, serial: Serial, event: &Event) -> Seri
     } else {
         op
     }
+}
+
+/// Returns the greatest operation that a line of the scripts names by its number, or 0 if none does.
+///
+/// A search may give other numbers to the operations above it, since no line can tell them apart.
+pub fn greatest_named(scripts: &[CallScript]) -> Serial
+    ensures { result ≡ greatest_named scripts.now }
+{
+    let mut greatest = Serial(0);
+    for script in scripts {
+        greatest = script.greatest_named(greatest);
+    }
+    greatest
 }
 
 /// Returns whether no script undoes steps by their serials, or works on an operation by the number

@@ -13,11 +13,18 @@ use Rattle.hp_schedules.specs.Alike.{AreAlike, exchanges}
 use Rattle.hp_states.specs.Exchanges.{IsExchanged, exchange_in}
 use Rattle.hp_schedules.specs.Schedules.{Setting, next_call, play_one, plays, record_of_call, schedule_of}
 use Rattle.hp_schedules.specs.Scripts.{own_operation}
-use Rattle.hp_states.specs.Standing.{AddsParts, IsBegunKey, IsKey, IsPart, KeepMeanings, StandingValue}
-use Rattle.hp_states.specs.Stops.{AreNumbersAt}
+use Rattle.hp_states.specs.Standing.{AddsParts, IsBegunKey, IsKey, IsPart, KeepMeanings, StandingValue, plainly}
+use Rattle.hp_states.specs.Stops.{AreNumbersAt, IsNumbering}
 use Rattle.hp_states.proofs.Exchanged.{exchanges_other, exchanges_own}
-use Rattle.hp_states.proofs.StopNumbers.{numbers_join, numbers_kept}
+use Rattle.hp_states.proofs.StopNumbers.{joined_equal, numbers_join, numbers_kept}
+use Rattle.hp_renumbering.proofs.Numbered.{differ}
+use Rattle.hp_units.specs.History.{net_of}
 use Rattle.hp_schedules.proofs.Plays.{asks_within, from_news, plays_one, stays_none}
+
+-- ---- operations by their own numbers
+
+pub plain_numbering : IsNumbering plainly
+plain_numbering = record { differ = λ news. differ 0 []; steady = λ news r goes. refl }
 
 -- ---- as more numbers come
 
@@ -28,7 +35,9 @@ key_kept g old new news key keep is = record {
   openings = is.openings;
   state_first = is.state_first;
   openings_next = is.openings_next;
-  numbers_are = numbers_kept g news old.stops new.stops is.state is.openings keep.stops is.numbers_are;
+  numbers_are =
+      numbers_kept (plainly news) g news old.stops new.stops is.state is.openings keep.stops
+      is.numbers_are;
   parts = λ cpu within. let part = is.parts cpu within in record {
     number = part.number;
     first = part.first;
@@ -118,7 +127,7 @@ key_more s news state openings cpu number op old key begun is exchanged own =
 
 pub key_whole : (g : Setting) (s : StandingValue) (news : List Record) (state openings cpus : ℕ)
     (key : List ℕ)
-    → cpus ≡ length g.scripts → AreNumbersAt g news s.stops state openings
+    → cpus ≡ length g.scripts → AreNumbersAt (plainly news) g news s.stops state openings
     → IsBegunKey s news state openings cpus key → IsKey g s news key
 key_whole g s news state openings cpus key many are begun = record {
   state = state;
@@ -133,7 +142,7 @@ key_whole g s news state openings cpus key many are begun = record {
 -- begun with the numbers of where a walk stands
 pub key_made : (g : Setting) (s : StandingValue) (news : List Record) (state openings cpus : ℕ)
     (old first key : List ℕ)
-    → cpus ≡ length g.scripts → AreNumbersAt g news s.stops state openings
+    → cpus ≡ length g.scripts → AreNumbersAt (plainly news) g news s.stops state openings
     → old ≡ [] → first ≡ old ++ state ∷ openings ∷ [] → AddsParts s news cpus first key → IsKey g s news key
 key_made g s news state openings cpus old first key many are none is more =
     key_whole g s news state openings cpus key many are
@@ -268,15 +277,17 @@ keys_alike g s h k key first second a b = record {
   begun =
       λ cpu within. same_Some (own_operation (receipts_of cpu h)) (own_operation (receipts_of cpu k))
       (sym (a.parts cpu within).second ∙ (b.parts cpu within).second);
-  nets = numbers_join g s.stops h k b.state b.openings same b.numbers_are;
+  nets =
+      joined_equal (plainly h) (differ 0 []) g.layout g.base (net_of (g.start ++ h)) (net_of (g.start ++ k))
+      (numbers_join (plainly h) (plainly k) g s.stops h k b.state b.openings same b.numbers_are);
 }
   where
     exchanged : (cpu : ℕ) → cpu < length g.scripts → exchanges cpu h ≡ exchanges cpu k
     exchanged cpu within = exchanged_same s cpu h k key (a.parts cpu within) (b.parts cpu within)
 
-    same : AreNumbersAt g h s.stops b.state b.openings
+    same : AreNumbersAt (plainly h) g h s.stops b.state b.openings
     same =
-        subst (λ (n : ℕ). AreNumbersAt g h s.stops b.state n)
+        subst (λ (n : ℕ). AreNumbersAt (plainly h) g h s.stops b.state n)
         (same_Some a.openings b.openings (sym a.openings_next ∙ b.openings_next))
-        (subst (λ (n : ℕ). AreNumbersAt g h s.stops n a.openings)
+        (subst (λ (n : ℕ). AreNumbersAt (plainly h) g h s.stops n a.openings)
         (same_Some a.state b.state (sym a.state_first ∙ b.state_first)) a.numbers_are)

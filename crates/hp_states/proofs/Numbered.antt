@@ -1,5 +1,5 @@
 -- What numbers of openings mean.
-use Rattle.std.proofs.Common.{◌≡◌, ℕ, ◌+◌, ◌<◌, Bool, true, false, cond, List, [], ◌∷◌, ◌++◌, length, eqb, IfSome, Option, Some, None, slice_get, refl, ap, sym, subst, ◌∙◌}
+use Rattle.std.proofs.Common.{◌≡◌, ℕ, ◌+◌, ◌<◌, Bool, true, false, cond, List, [], ◌∷◌, ◌++◌, length, map, eqb, IfSome, Option, Some, None, slice_get, refl, ap, sym, subst, ◌∙◌}
 use Rattle.std.proofs.lemmas.List.{append_assoc}
 use Rattle.std.proofs.lemmas.Option.{same_Some, slice_get_within}
 use Rattle.hp_states.specs.Codes.{IsCoded, KeepCodes}
@@ -11,12 +11,16 @@ use Rattle.hp_units.specs.declared.replies.Record.{Record}
 use Rattle.hp_laws.proofs.Net.{net-push}
 use Rattle.hp_schedules.specs.Alike.{leaves_steps}
 use Rattle.hp_states.specs.Interned.{KeepNumbers}
-use Rattle.hp_states.specs.Numbered.{AreNamed, IsBegun, IsEntryOf, IsInFront, IsMadeBy, IsNumbered, IsStateAt, NumbersOn, entry_below, in_front, opening_of, openings_of}
-use Rattle.hp_schedules.specs.Openings.{AreOpen, NumberedOpening, Opening, after_cancel, after_work, change_of}
+use Rattle.hp_states.specs.Numbered.{AreNamed, IsBegun, IsChanged, IsEntryOf, IsInFront, IsMadeBy, IsNumbered, IsStateAt, entry_below, in_front, opening_of, openings_of}
+use Rattle.hp_states.specs.Stops.{IsNumbering}
+use Rattle.hp_schedules.specs.Openings.{AreOpen, NumberedOpening, Opening, after_cancel, after_work, change_of, renumbered_change, renumbered_opening}
+use Rattle.hp_schedules.specs.declared.changes.Change.{Change}
 use Rattle.hp_schedules.specs.Schedules.{Setting}
 use Rattle.hp_schedules.specs.declared.changes.Change.TheVariants.{Stays, Begins, Works, Cancels, Ends}
 use Rattle.hp_states.specs.declared.openings.Entry.{Entry}
 use Rattle.hp_states.proofs.Numberings.{made_added}
+use Rattle.hp_renumbering.specs.Renumbered.{renumbered}
+use Rattle.hp_schedules.proofs.JoinedBy.{cancel_same, work_same}
 use Rattle.hp_schedules.proofs.Opened.{none_after, open_more}
 use Rattle.hp_schedules.proofs.Openings.{changed, openings_after}
 
@@ -147,13 +151,14 @@ other_cancel lists was n m op e is at differ here =
     (here ∙ ap (λ (b : Bool). Some (cond b at.0 [])) (sym differ))
 
 -- one record more, where the number means what it makes
-pub numbered_on : (g : Setting) (codes : List (List ℕ)) (lists : List (List NumberedOpening))
+numbered_on : (p : ℕ → ℕ) (g : Setting) (codes : List (List ℕ)) (lists : List (List NumberedOpening))
     (news : List Record) (r : Record) (ns : List NumberedOpening) (os : List Opening) (n : ℕ)
     → leaves_steps (effect_of r.event) ≡ true → AreOpen g.layout g.base (net_of (g.start ++ news)) os
-    → AreNamed g.layout codes ns (openings_after (value_of g.layout g.base (g.start ++ news)) os r)
-    → slice_get lists n ≡ Some ns → IsNumbered g codes lists (news ++ r ∷ []) (Some n)
+    → AreNamed g.layout codes ns
+    (map (renumbered_opening p) (openings_after (value_of g.layout g.base (g.start ++ news)) os r))
+    → slice_get lists n ≡ Some ns → IsNumbered p g codes lists (news ++ r ∷ []) (Some n)
 unfolding value_of
-numbered_on g codes lists news r ns os n leaves open_here named found = (
+numbered_on p g codes lists news r ns os n leaves open_here named found = (
   ns,
   openings_after (run g.layout g.base (net_of (g.start ++ news))) os r,
   found,
@@ -165,100 +170,153 @@ numbered_on g codes lists news r ns os n leaves open_here named found = (
 )
 
 -- by what the record does
-pub stays_on : (lists : List (List NumberedOpening)) (from : Option ℕ) (r : Record) (was : Option ℕ)
-    → change_of r ≡ Stays → NumbersOn lists lists from r was was
-stays_on lists from r None is g codes news here leaves before = tt
-stays_on lists from r (Some n) is g codes news here leaves before =
-    numbered_on g codes lists news r before.0 before.1 n leaves before.4
-    (subst (AreNamed g.layout codes before.0)
+stays_on : (p : ℕ → ℕ) (g : Setting) (codes : List (List ℕ)) (lists : List (List NumberedOpening))
+    (news : List Record) (r : Record) (was : Option ℕ)
+    → change_of r ≡ Stays → leaves_steps (effect_of r.event) ≡ true → IsNumbered p g codes lists news was
+    → IsNumbered p g codes lists (news ++ r ∷ []) was
+stays_on p g codes lists news r None is leaves before = tt
+stays_on p g codes lists news r (Some n) is leaves before =
+    numbered_on p g codes lists news r before.0 before.1 n leaves before.4
+    (subst (λ (os : List Opening). AreNamed g.layout codes before.0 (map (renumbered_opening p) os))
     (sym (ap (changed (value_of g.layout g.base (g.start ++ news)) r.serial before.1) is)) before.3)
     before.2
 
-pub begins_on : (old new : List (List NumberedOpening)) (from : Option ℕ) (r : Record)
-    (was number : Option ℕ)
-    → change_of r ≡ Begins → IsBegun old new r.serial from was number → NumbersOn old new from r was number
-begins_on old new from r was None is begun g codes news here leaves before = tt
-begins_on old new from r was (Some n) is begun g codes news here leaves before =
-    numbered_on g codes new news r (first ∷ known.0) known.1 n leaves known.4
-    (subst (AreNamed g.layout codes (first ∷ known.0))
+begins_on : (p : ℕ → ℕ) (g : Setting) (codes : List (List ℕ)) (old new : List (List NumberedOpening))
+    (news : List Record) (r : Record) (from was number : Option ℕ)
+    → change_of r ≡ Begins → leaves_steps (effect_of r.event) ≡ true
+    → IsBegun old new (p r.serial) from was number → IsStateAt p g codes news from
+    → IsNumbered p g codes old news was → IsNumbered p g codes new (news ++ r ∷ []) number
+begins_on p g codes old new news r from was None is leaves begun here before = tt
+begins_on p g codes old new news r from was (Some n) is leaves begun here before =
+    numbered_on p g codes new news r (first ∷ known.0) known.1 n leaves known.4
+    (subst (λ (os : List Opening). AreNamed g.layout codes (first ∷ known.0) (map (renumbered_opening p) os))
     (sym (ap (changed (value_of g.layout g.base (g.start ++ news)) r.serial known.1) is))
     (refl, state, known.3))
     (begun.4 known.0 known.2)
   where
-    known : IsNumbered g codes old news (Some begun.0)
-    known = subst (IsNumbered g codes old news) begun.2 before
+    known : IsNumbered p g codes old news (Some begun.0)
+    known = subst (IsNumbered p g codes old news) begun.2 before
 
-    state : IsCoded g.layout codes begun.1 (value_of g.layout g.base (g.start ++ news))
-    state = subst (IsStateAt g codes news) begun.3 here
+    state : IsCoded g.layout codes begun.1 (renumbered p (value_of g.layout g.base (g.start ++ news)))
+    state = subst (IsStateAt p g codes news) begun.3 here
 
     first : NumberedOpening
-    first = record { op = r.serial; memory = begun.1 }
+    first = record { op = p r.serial; memory = begun.1 }
 
-made_on : (lists : List (List NumberedOpening)) (from : Option ℕ) (r : Record) (was number : Option ℕ)
+made_on : (p : ℕ → ℕ) (g : Setting) (codes : List (List ℕ)) (lists : List (List NumberedOpening))
+    (news : List Record) (r : Record) (was number : Option ℕ)
     (f : List NumberedOpening → List NumberedOpening) (h : List Opening → List Opening)
     → ((here : Memory) (os : List Opening) → openings_after here os r ≡ h os)
-    → ((l : LayoutParts) (codes : List (List ℕ)) (ns : List NumberedOpening) (os : List Opening)
-    → AreNamed l codes ns os → AreNamed l codes (f ns) (h os))
-    → IsMadeBy f lists was number → NumbersOn lists lists from r was number
-made_on lists from r None number f h does name made g codes news here leaves before =
-    subst (IsNumbered g codes lists (news ++ r ∷ [])) (sym made) tt
-made_on lists from r (Some n) number f h does name made g codes news here leaves before =
+    → ((ns : List NumberedOpening) (os : List Opening)
+    → AreNamed g.layout codes ns (map (renumbered_opening p) os)
+    → AreNamed g.layout codes (f ns) (map (renumbered_opening p) (h os)))
+    → leaves_steps (effect_of r.event) ≡ true → IsMadeBy f lists was number
+    → IsNumbered p g codes lists news was → IsNumbered p g codes lists (news ++ r ∷ []) number
+made_on p g codes lists news r None number f h does name leaves made before =
+    subst (IsNumbered p g codes lists (news ++ r ∷ [])) (sym made) tt
+made_on p g codes lists news r (Some n) number f h does name leaves made before =
     let at = made before.0 before.2 in
-    subst (IsNumbered g codes lists (news ++ r ∷ [])) (sym at.1)
-    (numbered_on g codes lists news r (f before.0) before.1 at.0 leaves before.4
-    (subst (AreNamed g.layout codes (f before.0))
+    subst (IsNumbered p g codes lists (news ++ r ∷ [])) (sym at.1)
+    (numbered_on p g codes lists news r (f before.0) before.1 at.0 leaves before.4
+    (subst (λ (os : List Opening). AreNamed g.layout codes (f before.0) (map (renumbered_opening p) os))
     (sym (does (value_of g.layout g.base (g.start ++ news)) before.1))
-    (name g.layout codes before.0 before.1 before.3))
+    (name before.0 before.1 before.3))
     at.2)
 
-pub works_on : (lists : List (List NumberedOpening)) (from : Option ℕ) (r : Record) (was number : Option ℕ)
-    (op : ℕ)
-    → change_of r ≡ Works op → IsMadeBy (after_work op) lists was number
-    → NumbersOn lists lists from r was number
-works_on lists from r was number op is made =
-    made_on lists from r was number (after_work op) (after_work op)
-    (λ here os. ap (changed here r.serial os) is)
-    (λ l codes ns os named. named_work l codes op ns os named) made
-
-pub cancels_on : (lists : List (List NumberedOpening)) (from : Option ℕ) (r : Record) (was number : Option ℕ)
-    (op : ℕ)
-    → change_of r ≡ Cancels op → IsMadeBy (after_cancel op) lists was number
-    → NumbersOn lists lists from r was number
-cancels_on lists from r was number op is made =
-    made_on lists from r was number (after_cancel op) (after_cancel op)
-    (λ here os. ap (changed here r.serial os) is)
-    (λ l codes ns os named. named_cancel l codes op ns os named) made
-
-pub ends_on : (lists : List (List NumberedOpening)) (from : Option ℕ) (r : Record) (was : Option ℕ) (n : ℕ)
-    → change_of r ≡ Ends → slice_get lists n ≡ Some [] → NumbersOn lists lists from r was (Some n)
-ends_on lists from r was n is empty g codes news here leaves before = (
+ends_on : (p : ℕ → ℕ) (g : Setting) (codes : List (List ℕ)) (lists : List (List NumberedOpening))
+    (news : List Record) (r : Record) (number : Option ℕ)
+    → change_of r ≡ Ends → leaves_steps (effect_of r.event) ≡ true
+    → ((n : ℕ) → number ≡ Some n → slice_get lists n ≡ Some [])
+    → IsNumbered p g codes lists (news ++ r ∷ []) number
+ends_on p g codes lists news r None is leaves empty = tt
+ends_on p g codes lists news r (Some n) is leaves empty = (
   [],
   [],
-  empty,
+  empty n refl,
   tt,
   subst (λ (net : List Record). AreOpen g.layout g.base net [])
       (sym (ap net_of (sym (append_assoc g.start news (r ∷ []))) ∙ net-push (g.start ++ news) r))
       (none_after g.layout g.base (net_of (g.start ++ news)) r leaves is),
 )
 
+-- after one call more
+pub changed_on : (at : List Record → ℕ → ℕ) → IsNumbering at → (g : Setting) (codes : List (List ℕ))
+    (old new : List (List NumberedOpening)) (news : List Record) (r : Record) (from was number : Option ℕ)
+    → leaves_steps (effect_of r.event) ≡ true
+    → IsChanged old new from (at news r.serial) (renumbered_change (at news) (change_of r)) was number
+    → IsStateAt (at news) g codes news from → IsNumbered (at news) g codes old news was
+    → IsNumbered (at (news ++ r ∷ [])) g codes new (news ++ r ∷ []) number
+changed_on at numbering g codes old new news r from was number leaves changes here before =
+    by_change (change_of r) refl changes
+  where
+    steady : (change : Change) → change_of r ≡ change → (change ≡ Ends → ⊥)
+        → IsNumbered (at news) g codes new (news ++ r ∷ []) number
+        → IsNumbered (at (news ++ r ∷ [])) g codes new (news ++ r ∷ []) number
+    steady change is other numbered =
+        subst (λ (f : ℕ → ℕ). IsNumbered f g codes new (news ++ r ∷ []) number)
+        (sym (numbering.steady news r (λ ends. other (sym is ∙ ends)))) numbered
+
+    lists : (same : new ≡ old) → IsNumbered (at news) g codes old (news ++ r ∷ []) number
+        → IsNumbered (at news) g codes new (news ++ r ∷ []) number
+    lists same numbered =
+        subst (λ (all : List (List NumberedOpening)).
+        IsNumbered (at news) g codes all (news ++ r ∷ []) number) (sym same) numbered
+
+    by_change : (change : Change) → change_of r ≡ change
+        → IsChanged old new from (at news r.serial) (renumbered_change (at news) change) was number
+        → IsNumbered (at (news ++ r ∷ [])) g codes new (news ++ r ∷ []) number
+    by_change Stays is made =
+        steady Stays is (λ e. absurd cc)
+        (lists made.0 (subst (IsNumbered (at news) g codes old (news ++ r ∷ [])) (sym made.1)
+        (stays_on (at news) g codes old news r was is leaves before)))
+    by_change Begins is made =
+        steady Begins is (λ e. absurd cc)
+        (begins_on (at news) g codes old new news r from was number is leaves made here before)
+    by_change (Works op) is made =
+        steady (Works op) is (λ e. absurd cc)
+        (lists made.0 (made_on (at news) g codes old news r was number (after_work (at news op))
+        (after_work op) (λ memory os. ap (changed memory r.serial os) is)
+        (λ ns os named. subst (AreNamed g.layout codes (after_work (at news op) ns))
+        (sym (work_same (at news) (numbering.differ news) op os))
+        (named_work g.layout codes (at news op) ns (map (renumbered_opening (at news)) os) named))
+        leaves made.1 before))
+    by_change (Cancels op) is made =
+        steady (Cancels op) is (λ e. absurd cc)
+        (lists made.0 (made_on (at news) g codes old news r was number (after_cancel (at news op))
+        (after_cancel op) (λ memory os. ap (changed memory r.serial os) is)
+        (λ ns os named. subst (AreNamed g.layout codes (after_cancel (at news op) ns))
+        (sym (cancel_same (at news) (numbering.differ news) op os))
+        (named_cancel g.layout codes (at news op) ns (map (renumbered_opening (at news)) os) named))
+        leaves made.1 before))
+    by_change Ends is made =
+        subst (λ (all : List (List NumberedOpening)).
+        IsNumbered (at (news ++ r ∷ [])) g codes all (news ++ r ∷ []) number) (sym made.0)
+        (ends_on (at (news ++ r ∷ [])) g codes old news r number is leaves made.1)
+
 -- ---- numbers that are kept
 
-pub number_kept : (g : Setting) (codes later : List (List ℕ)) (old new : List (List NumberedOpening))
-    (news : List Record) (number : Option ℕ)
-    → KeepCodes codes later → KeepNumbers old new → IsNumbered g codes old news number
-    → IsNumbered g later new news number
-number_kept g codes later old new news None known keep is = tt
-number_kept g codes later old new news (Some n) known keep is =
-    (is.0, is.1, keep n is.0 is.2, named_kept g.layout codes later is.0 is.1 known is.3, is.4)
+pub number_kept : (p : ℕ → ℕ) (g : Setting) (codes later : List (List ℕ))
+    (old new : List (List NumberedOpening)) (news : List Record) (number : Option ℕ)
+    → KeepCodes codes later → KeepNumbers old new → IsNumbered p g codes old news number
+    → IsNumbered p g later new news number
+number_kept p g codes later old new news None known keep is = tt
+number_kept p g codes later old new news (Some n) known keep is = (
+  is.0,
+  is.1,
+  keep n is.0 is.2,
+  named_kept g.layout codes later is.0 (map (renumbered_opening p) is.1) known is.3,
+  is.4,
+)
 
-pub state_kept : (g : Setting) (codes later : List (List ℕ)) (news : List Record) (number : Option ℕ)
-    → KeepCodes codes later → IsStateAt g codes news number → IsStateAt g later news number
-state_kept g codes later news None known is = tt
-state_kept g codes later news (Some n) known is =
-    coded_is_kept g.layout codes later n (value_of g.layout g.base (g.start ++ news)) known is
+pub state_kept : (p : ℕ → ℕ) (g : Setting) (codes later : List (List ℕ)) (news : List Record)
+    (number : Option ℕ)
+    → KeepCodes codes later → IsStateAt p g codes news number → IsStateAt p g later news number
+state_kept p g codes later news None known is = tt
+state_kept p g codes later news (Some n) known is =
+    coded_is_kept g.layout codes later n (renumbered p (value_of g.layout g.base (g.start ++ news))) known is
 
-pub number_within : (g : Setting) (codes : List (List ℕ)) (lists : List (List NumberedOpening))
+pub number_within : (p : ℕ → ℕ) (g : Setting) (codes : List (List ℕ)) (lists : List (List NumberedOpening))
     (news : List Record) (number : Option ℕ)
-    → IsNumbered g codes lists news number → IfSome number (λ n. n < length lists)
-number_within g codes lists news None is = tt
-number_within g codes lists news (Some n) is = slice_get_within lists n is.0 is.2
+    → IsNumbered p g codes lists news number → IfSome number (λ n. n < length lists)
+number_within p g codes lists news None is = tt
+number_within p g codes lists news (Some n) is = slice_get_within lists n is.0 is.2

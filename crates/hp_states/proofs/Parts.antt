@@ -1,5 +1,5 @@
 -- The codes of the parts of a state, and of a whole state, tell them apart.
-use Rattle.std.proofs.Common.{ℕ, zero, suc, ◌≡◌, ◌≤◌, List, [], ◌∷◌, ◌++◌, Bool, true, false, Option, None, Some, refl, sym, ◌∙◌, ap, arith, append_assoc}
+use Rattle.std.proofs.Common.{◌/◌, ◌%◌, ℕ, zero, suc, ◌≡◌, ◌≤◌, List, [], ◌∷◌, ◌++◌, Bool, true, false, Option, None, Some, refl, sym, ◌∙◌, ap, arith, append_assoc}
 use Rattle.std.specs.List.{flat_map}
 use Rattle.hp_units.specs.LayoutParts.{LayoutParts}
 use Rattle.hp_units.specs.Memory.{Memory}
@@ -100,18 +100,21 @@ kind-apart a b xs ys e =
 claim-apart : TellsApart claim_code
 claim-apart None None xs ys e = (refl, (heads 0 0 xs ys e).1)
 claim-apart None (Some b) xs ys e =
-    let h = heads 0 (wish_number b.wish) xs (number_code b.op ++ ys) e in
+    let h = heads 0 (wish_number b.wish) xs (b.op % 2 ∷ number_code (b.op / 2) ++ ys) e in
     absurd (omega (arith, h.0, wish_some b.wish))
 claim-apart (Some a) None xs ys e =
-    let h = heads (wish_number a.wish) 0 (number_code a.op ++ xs) ys e in
+    let h = heads (wish_number a.wish) 0 (a.op % 2 ∷ number_code (a.op / 2) ++ xs) ys e in
     absurd (omega (arith, h.0, wish_some a.wish))
 claim-apart (Some a) (Some b) xs ys e =
-    let first = heads (wish_number a.wish) (wish_number b.wish) (number_code a.op ++ xs)
-    (number_code b.op ++ ys) e in
-    let rest = number-apart a.op b.op xs ys first.1 in
+    let first = heads (wish_number a.wish) (wish_number b.wish) (a.op % 2 ∷ number_code (a.op / 2) ++ xs)
+    (b.op % 2 ∷ number_code (b.op / 2) ++ ys) e in
+    let odd = heads (a.op % 2) (b.op % 2) (number_code (a.op / 2) ++ xs) (number_code (b.op / 2) ++ ys)
+    first.1 in
+    let rest = number-apart (a.op / 2) (b.op / 2) xs ys odd.1 in
+    let op : a.op ≡ b.op = omega (arith, odd.0, rest.0) in
     let wish : a.wish ≡ b.wish =
     sym (wish_back a.wish) ∙ (ap wish_numbered first.0 ∙ wish_back b.wish) in (
-      ap (λ (op : ℕ). Some (record { op = op; wish = a.wish })) rest.0
+      ap (λ (n : ℕ). Some (record { op = n; wish = a.wish })) op
           ∙ ap (λ (w : Wish). Some (record { op = b.op; wish = w })) wish,
       rest.1,
     )

@@ -5,7 +5,7 @@ use Rattle.hp_units.specs.declared.replies.Record.{Record}
 use Rattle.hp_schedules.specs.Alike.{is_closed}
 use Rattle.hp_states.specs.Exchanges.{IsExchanged}
 use Rattle.hp_schedules.specs.Schedules.{Setting}
-use Rattle.hp_states.specs.Standing.{AreSameNumbers, IsStanding, KeepMeanings, StandingValue}
+use Rattle.hp_states.specs.Standing.{AreSameNumbers, IsStanding, KeepMeanings, StandingValue, plainly}
 use Rattle.hp_states.proofs.Exchanged.{exchanged_begun}
 use Rattle.hp_states.proofs.Numberings.{keep_same}
 use Rattle.hp_states.proofs.StopNumbers.{begun_at, keep_none as keep_no_stops, keep_same_stops}
@@ -36,7 +36,7 @@ pub stood_begun : (g : Setting) (s : StandingValue) (n : ℕ) (closed : Bool) �
     → IsStanding g [] s
 stood_begun g s n closed many told is =
     subst (IsStanding g []) (sym is)
-    (record { stops = begun_at g closed told; exchanged = exchanged_begun g n many })
+    (record { stops = begun_at plainly g closed told; exchanged = exchanged_begun g n many })
 
 -- ---- the number of a processor's exchanges
 

@@ -1,22 +1,27 @@
--- The numbers that describe the place where a walk is.
-use Rattle.std.specs.Prelude.{◌≡◌, ℕ, ◌+◌, ◌*◌, ◌<◌, List, Some, length, slice_get}
+-- The numbers that describe a walk's place.
+use Rattle.std.specs.Prelude.{◌≡◌, ℕ, ◌+◌, ◌*◌, ◌<◌, List, [], Some, length, slice_get}
 use Rattle.hp_units.specs.Receipts.{receipts_of}
 use Rattle.hp_units.specs.declared.replies.Record.{Record}
+use Rattle.hp_renumbering.specs.Numberings.{number_of}
 use Rattle.hp_states.specs.Exchanges.{AreExchanged, ExchangesValue, IsExchanged}
 use Rattle.hp_states.specs.Interned.{KeepNumbers}
 use Rattle.hp_schedules.specs.Schedules.{Setting}
 use Rattle.hp_schedules.specs.Scripts.{own_operation}
 use Rattle.hp_states.specs.Stops.{AreNumbersAt, AreSameStops, AreStopsAt, KeepStops, StopsValue}
 
--- the numbers of the places on the walk's path; what each transcript number means; and the number of
--- each processor's transcript
+-- the numbers of the places on the walk's path, and the transcripts, with the number of each
+-- processor's transcript
 pub record StandingValue : Type 0 where
   pub stops : StopsValue
   pub exchanged : ExchangesValue
 
--- the numbers are those of the place after the new records
+-- each operation is numbered by its own number, wherever a walk is
+abbrev pub plainly : List Record → ℕ → ℕ
+plainly news op = number_of 0 [] op
+
+-- the numbers belong to the place after the new records
 pub record IsStanding (g : Setting) (news : List Record) (s : StandingValue) : Type 0 where
-  pub stops : AreStopsAt g news s.stops
+  pub stops : AreStopsAt plainly g news s.stops
   pub exchanged : AreExchanged g news s.exchanged
 
 -- each number keeps its meaning
@@ -36,7 +41,8 @@ pub record IsPart (s : StandingValue) (cpu : ℕ) (news : List Record) (key : Li
   pub exchanged : IsExchanged s.exchanged.chains cpu news number
   pub second : slice_get key (2 * cpu + 3) ≡ Some (own_operation (receipts_of cpu news))
 
--- a key with the parts of the processors below `cpus`
+-- the beginning of a key: the numbers of the state and of the openings, and the parts of the processors
+-- below `cpus`
 pub record IsBegunKey (s : StandingValue) (news : List Record) (state openings cpus : ℕ)
     (key : List ℕ) : Type 0 where
   pub long : length key ≡ 2 * cpus + 2
@@ -44,18 +50,18 @@ pub record IsBegunKey (s : StandingValue) (news : List Record) (state openings c
   pub openings_next : slice_get key 1 ≡ Some openings
   pub parts : (cpu : ℕ) → cpu < cpus → IsPart s cpu news key
 
--- what was appended completes a fresh key with the parts of the processors below `cpus`
+-- the new key adds the parts of the processors below `cpus` to a key without parts
 abbrev pub AddsParts : StandingValue → (news : List Record) → (cpus : ℕ) → (old new : List ℕ) → Type 0
 AddsParts s news cpus old new =
     (state openings : ℕ) → IsBegunKey s news state openings 0 old → IsBegunKey s news state openings cpus new
 
--- a key of the place after the new records: the number of the state, that of the cancellable
--- operations, and a part for each processor that has a script
+-- a key of the place after the new records: the numbers of the state and of the openings there, and a
+-- part for each processor with a script
 pub record IsKey (g : Setting) (s : StandingValue) (news : List Record) (key : List ℕ) : Type 0 where
   pub state : ℕ
   pub openings : ℕ
   pub state_first : slice_get key 0 ≡ Some state
   pub openings_next : slice_get key 1 ≡ Some openings
-  pub numbers_are : AreNumbersAt g news s.stops state openings
+  pub numbers_are : AreNumbersAt (plainly news) g news s.stops state openings
   pub parts : (cpu : ℕ) → cpu < length g.scripts → IsPart s cpu news key
   pub long : length key ≡ 2 * length g.scripts + 2

@@ -1,38 +1,49 @@
--- The numbers of the places that a walk came through: of their states, and of what a Cancel can take
--- back there.
+-- The numbers of the places that a walk came through: the number of each place's state, and the number
+-- of its openings.
 use Rattle.std.specs.Prelude.{◌≡◌, ℕ, List, [], ◌∷◌, ◌++◌, Some, reverse}
 use Rattle.hp_states.specs.Codes.{KeepCodes}
 use Rattle.hp_units.specs.declared.replies.Record.{Record}
 use Rattle.hp_states.specs.Interned.{KeepNumbers}
 use Rattle.hp_states.specs.Numbered.{IsNumbered, IsStateAt}
-use Rattle.hp_schedules.specs.Openings.{NumberedOpening}
+use Rattle.hp_renumbering.specs.Renumbered.{IsOneToOne}
+use Rattle.hp_schedules.specs.Openings.{NumberedOpening, change_of}
+use Rattle.hp_schedules.specs.declared.changes.Change.TheVariants.{Ends}
 use Rattle.hp_schedules.specs.Schedules.{Setting}
 use Rattle.hp_states.specs.declared.stops.Stop.{Stop}
 
--- what each number of a state and of a list of cancellable operations means; the numbers of the current
--- place, and of those before it on the path
+-- the meaning of each number of a state and of a list of openings, the numbers of the current place,
+-- and the numbers of the places before it on the path
 pub record StopsValue : Type 0 where
   pub codes : List (List ℕ)
   pub lists : List (List NumberedOpening)
   pub here : Stop
   pub before : List Stop
 
--- the numbers of the places that the new records lead through, the latest first
-abbrev pub AreStops : Setting → (codes : List (List ℕ)) → List (List NumberedOpening) → (news : List Record)
-    → List Stop → Type 0
-AreStops g codes lists news [] = Unit {0}
-AreStops g codes lists news (stop ∷ stops) =
-    IsNumbered g codes lists news stop.openings × IsStateAt g codes news stop.state
-    × ((before : List Record) (r : Record) → news ≡ before ++ r ∷ [] → AreStops g codes lists before stops)
+-- a numbering of operations at each place. It gives no two operations the same number, and changes only
+-- after a record that leaves nothing for a Cancel to take back
+pub record IsNumbering (at : List Record → ℕ → ℕ) : Type 0 where
+  pub differ : (news : List Record) → IsOneToOne (at news)
+  pub steady : (news : List Record) (r : Record) → (change_of r ≡ Ends → ⊥) → at (news ++ r ∷ []) ≡ at news
 
--- the numbers are those of the place after the new records
-abbrev pub AreStopsAt : Setting → (news : List Record) → StopsValue → Type 0
-AreStopsAt g news s = AreStops g s.codes s.lists news (s.here ∷ reverse s.before)
+-- the numbers of the places that the new records lead through, latest place first
+abbrev pub AreStops : (at : List Record → ℕ → ℕ) → Setting → (codes : List (List ℕ))
+    → List (List NumberedOpening) → (news : List Record) → List Stop → Type 0
+AreStops at g codes lists news [] = Unit {0}
+AreStops at g codes lists news (stop ∷ stops) =
+    IsNumbered (at news) g codes lists news stop.openings × IsStateAt (at news) g codes news stop.state
+    × ((before : List Record) (r : Record) → news ≡ before ++ r ∷ []
+    → AreStops at g codes lists before stops)
 
--- the numbers of the state after the new records, and of what a Cancel can take back there
-abbrev pub AreNumbersAt : Setting → (news : List Record) → StopsValue → (state openings : ℕ) → Type 0
-AreNumbersAt g news s state openings =
-    IsStateAt g s.codes news (Some state) × IsNumbered g s.codes s.lists news (Some openings)
+-- the numbers belong to the place after the new records, and to the places before it
+abbrev pub AreStopsAt : (at : List Record → ℕ → ℕ) → Setting → (news : List Record) → StopsValue → Type 0
+AreStopsAt at g news s = AreStops at g s.codes s.lists news (s.here ∷ reverse s.before)
+
+-- `state` and `openings` are the numbers of the state after the new records and of the openings there;
+-- `p` renumbers the operations
+abbrev pub AreNumbersAt : (p : ℕ → ℕ) → Setting → (news : List Record) → StopsValue → (state openings : ℕ)
+    → Type 0
+AreNumbersAt p g news s state openings =
+    IsStateAt p g s.codes news (Some state) × IsNumbered p g s.codes s.lists news (Some openings)
 
 -- each number keeps its meaning
 pub record KeepStops (old new : StopsValue) : Type 0 where

@@ -1,11 +1,14 @@
 //! The table of encoded states.
-ghost use Rattle.std.specs.Prelude.{◌≡◌, [], IfOk, OnOk};
-ghost use Rattle.hp_states.specs.Codes.{IsCoded, KeepCodes, state_code};
+ghost use Rattle.std.specs.Prelude.{◌≡◌, [], IfOk};
+ghost use Rattle.hp_renumbering.specs.Numberings.{number_of};
+ghost use Rattle.hp_renumbering.specs.Renumbered.{renumbered};
+ghost use Rattle.hp_states.specs.Codes.{IsCoded, KeepCodes};
 
 use crate::code::Code;
 use crate::memories::put_memory;
 use crate::texts::Texts;
 use hp_memory::Memory;
+use hp_units::Serial;
 use std::alloc::{AllocError, Global};
 use std::marker::Model;
 
@@ -47,15 +50,25 @@ impl Codes {
         }
     }
 
-    /// Returns the number of the memory's state, and adds the state if it is not found.
+    /// Returns the number of the memory's state, and adds the state if it is not found. Operations
+    /// have the numbers of [`number_of`](hp_renumbering::number_of) in it. So two states have the
+    /// same number if they differ only in the operations of these processors.
     ///
     /// If memory runs out, all earlier numbers still mean the same states.
-    pub fn number_of(&mut self, alloc: Global, memory: &Memory) -> Result<usize, AllocError>
+    pub fn number_of(
+        &mut self,
+        alloc: Global,
+        memory: &Memory,
+        fixed: Serial,
+        latest: &[Serial],
+    ) -> Result<usize, AllocError>
         ensures kept { KeepCodes self.old self.new }
-        ensures ok { IfOk result (λ n. IsCoded memory.now.layout self.new n memory.now.state) }
+        ensures ok { IfOk result (λ n. IsCoded memory.now.layout self.new n
+            (renumbered (number_of fixed latest.now) memory.now.state)) }
     {
         memory.is_placed();
-        encode(&mut self.written, memory)?;
+        self.written.clear();
+        put_memory(&mut self.written, memory, fixed, latest)?;
         self.texts.number_of(self.written.bytes())
     }
 
@@ -63,12 +76,4 @@ impl Codes {
     pub(crate) fn size(&self) -> u64 {
         self.texts.size()
     }
-}
-
-/// Writes the code of the memory's state in place of what `code` holds.
-fn encode(code: &mut Code, memory: &Memory) -> Result<(), AllocError>
-    ensures { OnOk result (code.new ≡ state_code memory.now.layout memory.now.state) }
-{
-    code.clear();
-    put_memory(code, memory)
 }

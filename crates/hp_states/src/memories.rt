@@ -1,25 +1,34 @@
 //! The encoding of a memory's state, part by part.
-ghost use Rattle.std.specs.Prelude.{◌≡◌, ◌<◌, ◌≤◌, [], ◌++◌, OnOk, length, option_map, slice_index_or};
+ghost use Rattle.std.specs.Prelude.{◌≡◌, ◌/◌, ◌%◌, ◌<◌, ◌≤◌, [], ◌∷◌, ◌++◌, OnOk, length, option_map, slice_index_or};
 ghost use Rattle.std.specs.List.{flat_map};
 ghost use Rattle.hp_units.specs.Memory.{cached_list, free_list};
 ghost use Rattle.hp_units.specs.Pages.{words_at};
 ghost use Rattle.hp_units.specs.Placement.{IsShaped};
 ghost use Rattle.hp_states.specs.Codes.{state_code};
-ghost use Rattle.hp_states.specs.Numbers.{option_code};
+ghost use Rattle.hp_renumbering.specs.Numberings.{number_of};
+ghost use Rattle.hp_renumbering.specs.Renumbered.{renumbered, renumbered_claim, renumbered_row};
+ghost use Rattle.hp_states.specs.Numbers.{number_code, option_code};
 ghost use Rattle.hp_states.specs.Parts.{auto_number, claim_code, counted_code, kind_code, kind_number, row_code, wish_number, words_code};
 
 use crate::code::Code;
 use hp_memory::Memory;
+use hp_renumbering::place_of;
 use hp_units::{
     Auto, Block, Claim, Class, Cpu, Frame, Kind, Mobility, Order, Owner, Page, Pageblock, Pool,
-    Row, Wish,
+    Row, Serial, Wish,
 };
 use std::alloc::AllocError;
 
-/// Appends the code of the memory's state.
+/// Appends the code of the memory's state, in which operations have the numbers of `number_of`.
 #[tactic(auto, unfolding(crate::specs::Codes::state_code))]
-pub(crate) fn put_memory(code: &mut Code, memory: &Memory) -> Result<(), AllocError>
-    ensures { OnOk result (code.new ≡ code.old ++ state_code memory.now.layout memory.now.state) }
+pub(crate) fn put_memory(
+    code: &mut Code,
+    memory: &Memory,
+    fixed: Serial,
+    latest: &[Serial],
+) -> Result<(), AllocError>
+    ensures { OnOk result (code.new ≡ code.old ++ state_code memory.now.layout
+        (renumbered (number_of fixed latest.now) memory.now.state)) }
 {
     memory.is_placed();
     put_areas(code, memory)?;
@@ -28,7 +37,7 @@ pub(crate) fn put_memory(code: &mut Code, memory: &Memory) -> Result<(), AllocEr
     put_table(code, memory)?;
     put_contents(code, memory)?;
     put_kernel(code, memory)?;
-    put_rows(code, memory)?;
+    put_rows(code, memory, fixed, latest)?;
     code.byte(auto_number(memory.auto()))
 }
 
@@ -190,35 +199,65 @@ fn put_kernel(code: &mut Code, memory: &Memory) -> Result<(), AllocError>
 }
 
 /// Appends the row of each memory block.
-fn put_rows(code: &mut Code, memory: &Memory) -> Result<(), AllocError>
+fn put_rows(
+    code: &mut Code,
+    memory: &Memory,
+    fixed: Serial,
+    latest: &[Serial],
+) -> Result<(), AllocError>
     requires { IsShaped memory.now.layout memory.now.state }
-    ensures { OnOk result (code.new ≡ code.old ++ flat_map row_code memory.now.state.blocks.rows) }
+    ensures { OnOk result (code.new ≡ code.old ++ flat_map row_code
+        (renumbered (number_of fixed latest.now) memory.now.state).blocks.rows) }
 {
     for number in 0..memory.layout().blocks() {
-        put_row(code, memory.blocks().row(Block(number)))?;
+        put_row(code, memory.blocks().row(Block(number)), fixed, latest)?;
     }
     Ok(())
 }
 
 /// Appends one row: its state, its zone and its claim.
-fn put_row(code: &mut Code, row: Row) -> Result<(), AllocError>
-    ensures { OnOk result (code.new ≡ code.old ++ row_code row) }
+fn put_row(code: &mut Code, row: Row, fixed: Serial, latest: &[Serial]) -> Result<(), AllocError>
+    ensures { OnOk result
+        (code.new ≡ code.old ++ row_code (renumbered_row (number_of fixed latest.now) row)) }
 {
     let claim = row.claim;
     code.byte(row.state.number())?;
     code.byte(row.zone_number())?;
-    put_claim(code, claim)
+    put_claim(code, claim, fixed, latest)
 }
 
-/// Appends an optional claim: 0 for none, and otherwise its wish and its operation.
-fn put_claim(code: &mut Code, claim: Option<Claim>) -> Result<(), AllocError>
-    ensures { OnOk result (code.new ≡ code.old ++ claim_code claim) }
+/// Appends an optional claim: 0 for none, and otherwise its wish and the number of its operation.
+fn put_claim(
+    code: &mut Code,
+    claim: Option<Claim>,
+    fixed: Serial,
+    latest: &[Serial],
+) -> Result<(), AllocError>
+    ensures { OnOk result (code.new ≡ code.old
+        ++ claim_code (option_map (renumbered_claim (number_of fixed latest.now)) claim)) }
 {
     match claim {
         None => code.byte(0),
         Some(claim) => {
             code.byte(wish_number(claim.wish))?;
-            code.number(claim.op.0)
+            put_op(code, claim.op, fixed, latest)
+        }
+    }
+}
+
+/// Appends the number of an operation: whether it is odd, and its half.
+fn put_op(code: &mut Code, op: Serial, fixed: Serial, latest: &[Serial]) -> Result<(), AllocError>
+    ensures { OnOk result (code.new ≡ code.old ++ number_of fixed latest.now op % 2
+        ∷ number_code (number_of fixed latest.now op / 2)) }
+{
+    match place_of(fixed, latest, op) {
+        Some(place) => {
+            code.byte(1)?;
+            code.number(place as u64)
+        }
+        None => {
+            code.byte(0)?;
+            code.number(op.0)
         }
     }
 }

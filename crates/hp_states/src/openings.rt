@@ -2,11 +2,10 @@
 //! Begin. Equal lists share a number in nearly all cases, so that places are compared by numbers.
 ghost use Rattle.std.specs.Prelude.{◌≡◌, ◌∷◌, ◌<◌, ◌≤◌, [], IfNone, IfOk, IfSome, List, Some, length, slice_get};
 ghost use Rattle.hp_states.specs.Interned.{KeepNumbers};
-ghost use Rattle.hp_states.specs.Numbered.{IsBegun, IsEntryOf, IsInFront, IsMadeBy, NumbersOn};
+ghost use Rattle.hp_states.specs.Numbered.{IsBegun, IsChanged, IsEntryOf, IsInFront, IsMadeBy};
 ghost use Rattle.hp_schedules.specs.Openings.{NumberedOpening, after_cancel, after_work};
 
-use hp_schedules::{Change, change_of, learn, mixed};
-use hp_units::{Record, Serial};
+use hp_schedules::{Change, learn, mixed};
 use indexmap::IndexMap;
 use std::alloc::{AllocError, Global};
 use std::marker::Model;
@@ -15,7 +14,7 @@ use std::marker::Model;
 /// before the operation's Begin.
 #[derive(Clone, Copy, Drop)]
 pub(crate) struct Entry {
-    op: Serial,
+    op: u64,
     state: usize,
     /// The number of the earlier list.
     below: usize,
@@ -63,23 +62,25 @@ impl Openings {
         }
     }
 
-    /// Returns the number of the list after the call `latest`, or `None` if the list is unknown.
-    /// `was` and `from` are the numbers of the list and of the state before the call.
+    /// Returns the number of the list after a change, or `None` if the list is unknown. `was` and
+    /// `from` are the numbers of the list and of the state before it, and `number` is that of the
+    /// operation that it begins.
     pub(crate) fn after(
         &mut self,
         was: Option<usize>,
         from: Option<usize>,
-        latest: &Record,
+        change: Change,
+        number: u64,
     ) -> Result<Option<usize>, AllocError>
-        requires { IfSome was (λ number. number < length self.old) }
+        requires { IfSome was (λ list. list < length self.old) }
         ensures kept { KeepNumbers self.old self.new }
-        ensures ok { IfOk result (NumbersOn self.old self.new from latest.now was) }
+        ensures ok { IfOk result (IsChanged self.old self.new from number change was) }
     {
-        match change_of(latest) {
+        match change {
             Change::Stays => Ok(was),
-            Change::Begins => self.after_begin(was, from, latest.serial),
-            Change::Works { op } => Ok(self.after_work(was, op)),
-            Change::Cancels { op } => Ok(self.after_cancel(was, op)),
+            Change::Begins => self.after_begin(was, from, number),
+            Change::Works { op } => Ok(self.after_work(was, op.0)),
+            Change::Cancels { op } => Ok(self.after_cancel(was, op.0)),
             Change::Ends => Ok(Some(self.empty())),
         }
     }
@@ -90,7 +91,7 @@ impl Openings {
         &mut self,
         was: Option<usize>,
         from: Option<usize>,
-        op: Serial,
+        op: u64,
     ) -> Result<Option<usize>, AllocError>
         requires { IfSome was (λ number. number < length self.old) }
         ensures kept { KeepNumbers self.old self.new }
@@ -108,12 +109,12 @@ impl Openings {
 
     /// Returns the number of the list `below` with this operation in front, and adds that list if
     /// it is not found.
-    fn in_front(&mut self, op: Serial, state: usize, below: usize) -> Result<usize, AllocError>
+    fn in_front(&mut self, op: u64, state: usize, below: usize) -> Result<usize, AllocError>
         requires { below < length self.old }
         ensures kept { KeepNumbers self.old self.new }
         ensures ok { IfOk result (IsInFront self.old self.new op state below) }
     {
-        let digest = mixed(mixed(state as u64, op.0), below as u64);
+        let digest = mixed(mixed(state as u64, op), below as u64);
         if let Some(number) = self.found(digest, op, state, below) {
             return Ok(number);
         }
@@ -125,7 +126,7 @@ impl Openings {
     }
 
     /// Returns the number of that list if it is the newest with its hash.
-    fn found(&self, digest: u64, op: Serial, state: usize, below: usize) -> Option<usize>
+    fn found(&self, digest: u64, op: u64, state: usize, below: usize) -> Option<usize>
         ensures { IfSome result (IsInFront self.now self.now op state below) }
     {
         let Some(number) = self.latest.get(&digest) else {
@@ -143,7 +144,7 @@ impl Openings {
 
     /// Returns the number after an operation's own work: the same list if the operation is first in
     /// it, otherwise the empty list.
-    fn after_work(&self, was: Option<usize>, worked: Serial) -> Option<usize>
+    fn after_work(&self, was: Option<usize>, worked: u64) -> Option<usize>
         ensures { IsMadeBy (after_work worked) self.now was result }
     {
         let Some(number) = was else {
@@ -161,7 +162,7 @@ impl Openings {
 
     /// Returns the number after a Cancel: the rest of the list if the operation is first in it,
     /// otherwise the empty list.
-    fn after_cancel(&self, was: Option<usize>, cancelled: Serial) -> Option<usize>
+    fn after_cancel(&self, was: Option<usize>, cancelled: u64) -> Option<usize>
         ensures { IsMadeBy (after_cancel cancelled) self.now was result }
     {
         let Some(number) = was else {

@@ -13,9 +13,12 @@ use crate::exchanges::Exchanges;
 use crate::stops::{Stops, push_two};
 use hp_memory::Memory;
 use hp_schedules::Positions;
-use hp_units::{Cpu, Record};
+use hp_units::{Cpu, Record, Serial};
 use std::alloc::{AllocError, Global};
 use std::marker::Model;
+
+/// The number of no operation. Each operation is numbered by its own number above it.
+const NO_OPERATION: Serial = Serial(0);
 
 /// The numbers of the place where a walk is, of the places before it, and of the transcripts.
 pub(crate) struct Standing {
@@ -74,7 +77,7 @@ impl Standing {
             → leaves_steps (effect_of latest.now.event) ≡ true
             → IsStanding g (news ++ latest.now ∷ []) self.new) }
     {
-        self.stops.go_on(latest)?;
+        self.stops.go_on(latest, NO_OPERATION, &[])?;
         self.exchanges.go_on(alloc, latest.cpu, latest)
     }
 
@@ -95,7 +98,7 @@ impl Standing {
         ensures here { (g : Setting) (news : List NewRecord) → memory.now ≡ memory_at g news
             → IsStanding g news self.old → IsStanding g news self.new }
     {
-        self.stops.number_state(alloc, memory)
+        self.stops.number_state(alloc, memory, NO_OPERATION, &[])
     }
 
     /// Returns about how many bytes the states take.

@@ -1,17 +1,23 @@
 //! The places on a walk's path, as two numbers each: one for the state, and one for the operations
 //! that a Cancel can take back. Equal numbers of one kind mean the same.
-ghost use Rattle.std.specs.Prelude.{◌≡◌, ℕ, ◌++◌, ◌∷◌, [], IfOk, List, None, OnOk, Some, cond, true, unwrap_or};
+ghost use Rattle.std.specs.Prelude.{◌≡◌, ◌<◌, ℕ, ◌++◌, ◌∷◌, [], IfOk, IfSome, List, None, OnOk, Some, cond, length, true};
 ghost use Rattle.hp_units.specs.History.{effect_of};
 ghost use Rattle.hp_units.specs.declared.replies.Record.{Record as NewRecord};
 ghost use Rattle.hp_schedules.specs.Alike.{leaves_steps};
 ghost use Rattle.hp_schedules.specs.Schedules.{Setting};
 ghost use Rattle.hp_states.specs.Places.{memory_at};
-ghost use Rattle.hp_states.specs.Stops.{AreNumbersAt, AreSameStops, AreStopsAt, KeepStops};
+ghost use Rattle.hp_renumbering.specs.Numberings.{number_of};
+ghost use Rattle.hp_schedules.specs.Openings.{renumbered_change};
+ghost use Rattle.hp_states.specs.Interned.{KeepNumbers};
+ghost use Rattle.hp_states.specs.Numbered.{IsNumbered, IsStateAt};
+ghost use Rattle.hp_states.specs.Stops.{AreNumbersAt, AreSameStops, AreStopsAt, IsNumbering, KeepStops};
 
 use crate::Codes;
 use crate::openings::Openings;
 use hp_memory::Memory;
-use hp_units::Record;
+use hp_renumbering::number_of;
+use hp_schedules::{Change, change_of};
+use hp_units::{Record, Serial};
 use std::alloc::{AllocError, Global};
 use std::marker::Model;
 
@@ -22,6 +28,12 @@ pub(crate) struct Stop {
     openings: Option<usize>,
     state: Option<usize>,
 }
+
+/// A place of which neither number is known.
+const UNKNOWN: Stop = Stop {
+    openings: None,
+    state: None,
+};
 
 /// The numbers of the place where a walk is, and of each place before it, from the beginning of the
 /// scripts.
@@ -82,16 +94,24 @@ impl Stops {
         }
     }
 
-    /// Moves to the place after a call. Its state has no number yet.
-    pub fn go_on(&mut self, latest: &Record) -> Result<(), AllocError>
-        requires { (g : Setting) × (news : List NewRecord) × AreStopsAt g news self.old }
+    /// Moves to the place after a call. Its state has no number yet. `fixed` and `latest` number
+    /// the operations at the place before the call, as [`number_of`] does.
+    pub fn go_on(
+        &mut self,
+        call: &Record,
+        fixed: Serial,
+        latest: &[Serial],
+    ) -> Result<(), AllocError>
+        requires { (at : List NewRecord → ℕ → ℕ) × (g : Setting) × (news : List NewRecord)
+            × AreStopsAt at g news self.old }
         ensures kept { KeepStops self.old self.new }
-        ensures ok { OnOk result ((g : Setting) (news : List NewRecord) → AreStopsAt g news self.old
-            → leaves_steps (effect_of latest.now.event) ≡ true
-            → AreStopsAt g (news ++ latest.now ∷ []) self.new) }
+        ensures ok { OnOk result ((at : List NewRecord → ℕ → ℕ) (g : Setting) (news : List NewRecord)
+            → IsNumbering at → at news ≡ number_of fixed latest.now
+            → AreStopsAt at g news self.old → leaves_steps (effect_of call.now.event) ≡ true
+            → AreStopsAt at g (news ++ call.now ∷ []) self.new) }
     {
         let was = self.here;
-        let openings = self.openings.after(was.openings, was.state, latest)?;
+        let openings = openings_after(&mut self.openings, was, call, fixed, latest)?;
         self.before.push(was)?;
         self.here = Stop {
             openings,
@@ -103,24 +123,31 @@ impl Stops {
     /// Takes back the latest call.
     pub fn go_back(&mut self)
         ensures same { AreSameStops self.old self.new }
-        ensures back { (g : Setting) (news : List NewRecord) (r : NewRecord)
-            → AreStopsAt g (news ++ r ∷ []) self.old → AreStopsAt g news self.new }
+        ensures back { (at : List NewRecord → ℕ → ℕ) (g : Setting) (news : List NewRecord) (r : NewRecord)
+            → AreStopsAt at g (news ++ r ∷ []) self.old → AreStopsAt at g news self.new }
     {
-        let here = known_of(self.before.pop());
+        let here = self.before.pop().unwrap_or(UNKNOWN);
         self.here = here;
     }
 
     /// Numbers the current state. Does nothing if it is unknown which operations a Cancel can take
-    /// back.
-    pub fn number_state(&mut self, alloc: Global, memory: &Memory) -> Result<(), AllocError>
+    /// back. `fixed` and `latest` number the operations at the place.
+    pub fn number_state(
+        &mut self,
+        alloc: Global,
+        memory: &Memory,
+        fixed: Serial,
+        latest: &[Serial],
+    ) -> Result<(), AllocError>
         ensures kept { KeepStops self.old self.new }
-        ensures here { (g : Setting) (news : List NewRecord) → memory.now ≡ memory_at g news
-            → AreStopsAt g news self.old → AreStopsAt g news self.new }
+        ensures here { (at : List NewRecord → ℕ → ℕ) (g : Setting) (news : List NewRecord)
+            → at news ≡ number_of fixed latest.now → memory.now ≡ memory_at g news
+            → AreStopsAt at g news self.old → AreStopsAt at g news self.new }
     {
         if self.here.openings.is_none() {
             return Ok(());
         }
-        let state = self.codes.number_of(alloc, memory)?;
+        let state = self.codes.number_of(alloc, memory, fixed, latest)?;
         self.here.state = Some(state);
         Ok(())
     }
@@ -135,8 +162,9 @@ impl Stops {
     pub fn push_numbers(&self, numbers: &mut Vec<u32>) -> Result<bool, AllocError>
         ensures { IfOk result (λ has. has ≡ true → (state : ℕ) × (openings : ℕ)
             × (numbers.new.items ≡ numbers.old.items ++ state ∷ openings ∷ [])
-            × ((g : Setting) (news : List NewRecord) → AreStopsAt g news self.now
-            → AreNumbersAt g news self.now state openings)) }
+            × ((at : List NewRecord → ℕ → ℕ) (g : Setting) (news : List NewRecord)
+            → AreStopsAt at g news self.now
+            → AreNumbersAt (at news) g news self.now state openings)) }
     {
         let Some(state) = self.here.state else {
             return Ok(false);
@@ -156,16 +184,48 @@ fn first_number(is_closed: bool) -> Option<usize>
     if is_closed { Some(0) } else { None }
 }
 
-/// Returns the place, or one with unknown numbers if there is none.
-fn known_of(stop: Option<Stop>) -> Stop
-    ensures { result ≡ unwrap_or stop (record { openings = None; state = None }) }
+/// Returns the number of the operations that a Cancel can take back after a call, or `None` if they
+/// are unknown, or if the number of an operation is 2^64 or greater. `was` is the place before it.
+fn openings_after(
+    openings: &mut Openings,
+    was: Stop,
+    call: &Record,
+    fixed: Serial,
+    latest: &[Serial],
+) -> Result<Option<usize>, AllocError>
+    requires { IfSome was.openings (λ list. list < length openings.old) }
+    ensures kept { KeepNumbers openings.old openings.new }
+    ensures ok { IfOk result (λ number. (at : List NewRecord → ℕ → ℕ) (g : Setting) (codes : List (List ℕ))
+        (news : List NewRecord)
+        → IsNumbering at → at news ≡ number_of fixed latest.now
+        → leaves_steps (effect_of call.now.event) ≡ true
+        → IsStateAt (at news) g codes news was.state
+        → IsNumbered (at news) g codes openings.old news was.openings
+        → IsNumbered (at (news ++ call.now ∷ [])) g codes openings.new (news ++ call.now ∷ []) number) }
 {
-    match stop {
-        Some(stop) => stop,
-        None => Stop {
-            openings: None,
-            state: None,
-        },
+    let Some(number) = number_of(fixed, latest, call.serial) else {
+        return Ok(None);
+    };
+    let Some(change) = numbered(change_of(call), fixed, latest) else {
+        return Ok(None);
+    };
+    openings.after(was.openings, was.state, change, number)
+}
+
+/// Returns the change with the number of its operation, or `None` if that is 2^64 or greater.
+fn numbered(change: Change, fixed: Serial, latest: &[Serial]) -> Option<Change>
+    ensures { IfSome result (λ numbered. numbered ≡ renumbered_change (number_of fixed latest.now) change) }
+{
+    match change {
+        Change::Works { op } => Some(Change::Works {
+            op: Serial(number_of(fixed, latest, op)?),
+        }),
+        Change::Cancels { op } => Some(Change::Cancels {
+            op: Serial(number_of(fixed, latest, op)?),
+        }),
+        Change::Stays => Some(Change::Stays),
+        Change::Begins => Some(Change::Begins),
+        Change::Ends => Some(Change::Ends),
     }
 }
 

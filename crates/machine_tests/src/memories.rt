@@ -43,12 +43,12 @@ fn are_numbered(
     memory: &mut Memory,
     tape: &mut Tape,
 ) -> Result<bool, AllocError> {
-    let before = codes.number_of(alloc, memory)?;
+    let before = codes.number_of(alloc, memory, Serial(0), &[])?;
     let was_first = is_first(stepped_and_back(alloc, memory, tape));
-    let again = codes.number_of(alloc, memory)?;
+    let again = codes.number_of(alloc, memory, Serial(0), &[])?;
     let take = Event::KernelAlloc { order: Order(1) };
     let is_first = is_first(memory.step(alloc, Serial(1), Cpu(0), &take, tape));
-    let after = codes.number_of(alloc, memory)?;
+    let after = codes.number_of(alloc, memory, Serial(0), &[])?;
     Ok(was_first && is_first && before == 0 && again == 0 && after == 1)
 }
 

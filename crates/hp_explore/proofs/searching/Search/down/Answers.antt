@@ -1,5 +1,5 @@
 -- The processor's call is passed over, or leads to a place.
-use Rattle.std.proofs.Common.{◌≡◌, ◌∷◌, ◌++◌, [], ℕ, List, Bool, Some, ap, subst, sym, arith, ◌∙◌}
+use Rattle.std.proofs.Common.{◌≡◌, ◌∷◌, ◌++◌, [], ℕ, length, List, Bool, Some, ap, subst, sym, arith, ◌∙◌}
 use Rattle.std.proofs.lemmas.Result.{err_from_is_err_and}
 use Rattle.hp_schedules.specs.Schedules.{Setting, plays, schedule_of}
 use Rattle.hp_explore.specs.Aims.{MayBeSkipped}
@@ -49,8 +49,22 @@ returns-then-not-branch-clause-ok g c =
     (subst (λ (b : Bool). IsForth c.self.inside.path c.self.inside.next b c.forward.new.self)
     c.if-not-branch.true c.in_ok-forward.ensures.ok) c.in_ok-reserve.ensures.items
 
-pub go_on-requires : goal.go_on-requires
-go_on-requires g c =
+pub go_on-requires-clause-processors : goal.go_on-requires-clause-processors
+go_on-requires-clause-processors g c =
+    let forth =
+    subst (λ (b : Bool). IsForth c.self.inside.path c.self.inside.next b c.forward.new.self)
+    c.if-not-branch.false c.in_ok-forward.ensures.ok in
+    let same = ap (λ (p : PathValue). p.setting) forth.3 ∙ ap (λ (w : SearchValue). w.path.setting)
+    c.self.view_is in
+    omega (
+      arith,
+      c.requires.processors,
+      c.positions.ensures.many,
+      ap (λ (h : Setting). length h.scripts) same,
+    )
+
+pub go_on-requires-clause-way : goal.go_on-requires-clause-way
+go_on-requires-clause-way g c =
     let v = c.args.self.now in (
       v.path.setting,
       v.path.news,
@@ -69,15 +83,15 @@ arrive-requires-clause-arriving g c =
     c.push_reserved.new.self.items c.self.inside.next c.go_on.new.self)) (sym same)
     (comes_to (g.A.Aim.shows c.args.aim.now c.args.self.now.path.setting) c.self.inside.path
     c.forward.new.self c.self.inside.schedule.items c.push_reserved.new.self.items c.self.inside.next
-    c.latest.result.now c.self.inside.visited c.go_on.new.self c.args.self.now c.self.view_is
-    c.requires.searching c.is_played.ensures forth
+    c.latest.result.now c.positions.result.now.cursors.items c.self.inside.visited c.go_on.new.self
+    c.args.self.now c.self.view_is c.requires.searching c.is_played.ensures forth
     (c.push_reserved.ensures.items
     ∙ ap (λ (s : List ℕ). s ++ c.self.inside.next ∷ []) c.in_ok-reserve.ensures.items)
     (subst (λ (w : SearchValue). (g.A.Aim.shows c.args.aim.now w.path.setting).tries
     c.self.inside.schedule.items c.self.inside.next) c.self.view_is
     (subst (λ (s : List ℕ). (g.A.Aim.shows c.args.aim.now c.self.inside.path.setting).tries s
     c.self.inside.next) c.as_slice.ensures.value (c.may_try.ensures.tried c.if-not-may_try.false)))
-    (λ before r is. c.latest.ensures before r (c.records.ensures ∙ is))
+    (λ before r is. c.latest.ensures before r (c.records.ensures ∙ is)) c.positions.ensures
     c.in_ok-go_on.ensures.same.0 c.in_ok-go_on.ensures.same.1 c.in_ok-go_on.ensures.kept
     c.in_ok-go_on.ensures.ok)
 

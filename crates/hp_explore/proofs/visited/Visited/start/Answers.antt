@@ -1,14 +1,39 @@
 -- The numbers are those of the place where the scripts begin.
-use Rattle.std.proofs.Common.{[], ap, subst, sym, ◌∙◌}
+use Rattle.std.proofs.Common.{[], ap, length, subst, sym, arith, ◌∙◌}
 use Rattle.hp_schedules.specs.Alike.{is_closed}
+use Rattle.hp_schedules.specs.Cursors.{AreCursors}
 use Rattle.hp_states.specs.Stops.{AreStopsAt}
 use Rattle.hp_states.proofs.StopNumbers.{begun_at}
+use Rattle.hp_explore.specs.LatestOps.{numbering}
+use Rattle.hp_explore.specs.Paths.{PathValue, state_at}
 use Rattle.hp_explore.specs.Settings.{setting}
+use Rattle.hp_explore.proofs.LatestPaths.{numbers_here}
 use Rattle.hp_explore.proofs.visited.Visited.start.Goals as goal
+
+pub start-requires : goal.start-requires
+start-requires c =
+    omega (
+      arith,
+      c.requires.processors,
+      c.positions.ensures.many,
+      ap (λ (p : PathValue). length p.setting.scripts) c.requires.begun,
+    )
 
 pub returns-clause-way : goal.returns-clause-way
 returns-clause-way c =
     let g = setting c.args.machine.now c.args.scripts.now in
-    λ set. c.in_ok-number_state.ensures.here g [] c.requires
-    (subst (AreStopsAt g []) (sym c.start-stops.ensures) (begun_at g c.is_closed.result
-    (c.is_closed.ensures ∙ ap is_closed c.history.ensures.records)))
+    let latest = c.in_ok-latest.ensures g
+    (subst (λ (p : PathValue). AreCursors p.setting p.news c.positions.result.now.cursors.items)
+    c.requires.begun c.positions.ensures) in
+    λ set. (
+      c.in_ok-number_state.ensures.here (numbering g) g []
+          (sym (numbers_here g [] c.greatest_named-fixed.result c.in_ok-latest.latest.here.items
+          c.here.result.now c.greatest_named-fixed.ensures c.here.ensures latest.0))
+          (c.memory.ensures
+          ∙ ap (λ (p : PathValue). record { layout = p.setting.layout; state = state_at p }) c.requires.begun)
+          (subst (AreStopsAt (numbering g) g []) (sym c.start-stops.ensures)
+          (begun_at (numbering g) g c.is_closed.result
+          (c.is_closed.ensures ∙ ap is_closed c.history.ensures.records))),
+      latest,
+      c.greatest_named-fixed.ensures,
+    )

@@ -4,30 +4,32 @@ use Rattle.std.proofs.lemmas.List.{append_assoc}
 use Rattle.std.proofs.lemmas.Option.{slice_get_read}
 use Rattle.std.proofs.lemmas.Result.{IfOk-weaker}
 use Rattle.hp_units.specs.Receipts.{receipts_of}
+use Rattle.hp_renumbering.specs.Numberings.{number_of}
 use Rattle.hp_schedules.specs.Cursors.{frames_ahead, steering_of}
 use Rattle.hp_schedules.proofs.Placed.{steered_at}
 use Rattle.hp_schedules.proofs.positions.Positions.push_steering.Goals as goal
 
 pub returns : goal.returns
 returns c =
+    let f : ℕ → ℕ = number_of c.args.fixed c.args.latest.now in
     let whole : c.loop-number.number-index ≡ 5 = omega arith in
     let five : c.loop-number.numbers.items
-    ≡ c.args.numbers.now.items ++ steering_of c.index-cursor.result.now =
+    ≡ c.args.numbers.now.items ++ steering_of f c.index-cursor.result.now =
     c.loop-number.invariant ∙ ap (λ (xs : List ℕ). c.args.numbers.now.items ++ xs)
-    (ap (λ (n : ℕ). take n c.steering-steering.result) whole ∙ ap (take 5) c.steering-steering.ensures) in
+    (ap (λ (n : ℕ). take n c.in-Some.steering) whole ∙ ap (take 5) c.in-Some.ensures) in
     IfOk-weaker c.push_frames.result _ _
     (λ fit adds all. (
-      steering_of c.index-cursor.result.now
+      steering_of f c.index-cursor.result.now
           ++ frames_ahead c.index-cursor.result.now c.lines.result.now
           (receipts_of c.args.cpu c.args.news.now),
       adds all
           ∙ (ap (λ (xs : List ℕ).
           xs ++ frames_ahead c.index-cursor.result.now c.lines.result.now
           (receipts_of c.args.cpu c.args.news.now)) five
-          ∙ append_assoc c.args.numbers.now.items (steering_of c.index-cursor.result.now)
+          ∙ append_assoc c.args.numbers.now.items (steering_of f c.index-cursor.result.now)
           (frames_ahead c.index-cursor.result.now c.lines.result.now
           (receipts_of c.args.cpu c.args.news.now))),
-      λ g scripts at. steered_at g c.args.news.now c.args.cpu c.args.scripts.now
+      λ g scripts at. steered_at f g c.args.news.now c.args.cpu c.args.scripts.now
           c.index-scripts-place.result c.lines.result.now c.args.self.now.cursors.items
           c.index-cursor.result.now scripts
           (slice_get_read c.args.scripts.now (length c.args.scripts.now) c.args.cpu

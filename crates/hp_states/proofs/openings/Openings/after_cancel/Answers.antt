@@ -1,5 +1,6 @@
 -- The earlier list is left where the operation is the first.
-use Rattle.std.proofs.Common.{◌≡◌, [], Bor, IfNone, IfSome, List, Option, Some, refl, slice_get, subst, sym, ◌∙◌}
+use Rattle.std.proofs.Common.{◌≡◌, [], Bor, eqb, IfNone, IfSome, List, Option, Some, refl, slice_get, subst}
+use Rattle.std.proofs.lemmas.Bool.{eq-eqb, eqb-true, false_from_ne_true}
 use Rattle.hp_states.specs.Numbered.{IsEntryOf}
 use Rattle.hp_schedules.specs.Openings.{NumberedOpening, after_cancel}
 use Rattle.hp_states.specs.declared.openings.Entry.{Entry}
@@ -15,20 +16,22 @@ returns-in_default-entry c =
     c.entry.ensures.none)
     c.empty.ensures
 
-pub returns-then-eq : goal.returns-then-eq
-returns-then-eq c =
+pub returns-then-entry-cancelled : goal.returns-then-entry-cancelled
+returns-then-entry-cancelled c =
     let at =
     subst (λ (o : Option (Bor Entry)). IfSome o (λ e. IsEntryOf c.args.self.now c.in-Some.number e.now))
     c.in-Some-entry.is c.entry.ensures.some in
     same_cancel c.args.self.now c.args.was c.in-Some.number c.args.cancelled c.in-Some-entry.entry.now
     c.in-Some.is at
-    (sym c.eq.ensures ∙ c.if-eq.true)
+    (eq-eqb c.in-Some-entry.entry.now.op c.args.cancelled c.if-entry-cancelled.true)
 
-pub returns-else-eq : goal.returns-else-eq
-returns-else-eq c =
+pub returns-else-entry-cancelled : goal.returns-else-entry-cancelled
+returns-else-entry-cancelled c =
     let at =
     subst (λ (o : Option (Bor Entry)). IfSome o (λ e. IsEntryOf c.args.self.now c.in-Some.number e.now))
     c.in-Some-entry.is c.entry.ensures.some in
-    other_cancel c.args.self.now c.args.was c.in-Some.number c.empty-else-eq.result c.args.cancelled
-    c.in-Some-entry.entry.now
-    c.in-Some.is at (sym c.eq.ensures ∙ c.if-eq.false) c.empty-else-eq.ensures
+    other_cancel c.args.self.now c.args.was c.in-Some.number c.empty-else-entry-cancelled.result
+    c.args.cancelled c.in-Some-entry.entry.now c.in-Some.is at
+    (false_from_ne_true (eqb c.in-Some-entry.entry.now.op c.args.cancelled)
+    (λ same. c.if-entry-cancelled.false (eqb-true c.in-Some-entry.entry.now.op c.args.cancelled same)))
+    c.empty-else-entry-cancelled.ensures

@@ -1,5 +1,6 @@
 -- Where another operation is the first, or the list is empty, nothing is left.
-use Rattle.std.proofs.Common.{◌≡◌, [], Bor, IfNone, IfSome, List, Option, Some, refl, slice_get, subst, sym, ◌∙◌}
+use Rattle.std.proofs.Common.{◌≡◌, [], Bor, eqb, IfNone, IfSome, List, Option, Some, refl, slice_get, subst}
+use Rattle.std.proofs.lemmas.Bool.{eq-eqb, eqb-true, false_from_ne_true}
 use Rattle.hp_states.specs.Numbered.{IsEntryOf}
 use Rattle.hp_schedules.specs.Openings.{NumberedOpening, after_work}
 use Rattle.hp_states.specs.declared.openings.Entry.{Entry}
@@ -15,20 +16,22 @@ returns-in_default-entry c =
     c.entry.ensures.none)
     c.empty.ensures
 
-pub returns-then-eq : goal.returns-then-eq
-returns-then-eq c =
+pub returns-then-entry-worked : goal.returns-then-entry-worked
+returns-then-entry-worked c =
     let at =
     subst (λ (o : Option (Bor Entry)). IfSome o (λ e. IsEntryOf c.args.self.now c.in-Some.number e.now))
     c.in-Some-entry.is c.entry.ensures.some in
     same_work c.args.self.now c.args.was c.in-Some.number c.args.worked c.in-Some-entry.entry.now c.in-Some.is
     at
-    (sym c.eq.ensures ∙ c.if-eq.true)
+    (eq-eqb c.in-Some-entry.entry.now.op c.args.worked c.if-entry-worked.true)
 
-pub returns-else-eq : goal.returns-else-eq
-returns-else-eq c =
+pub returns-else-entry-worked : goal.returns-else-entry-worked
+returns-else-entry-worked c =
     let at =
     subst (λ (o : Option (Bor Entry)). IfSome o (λ e. IsEntryOf c.args.self.now c.in-Some.number e.now))
     c.in-Some-entry.is c.entry.ensures.some in
-    other_work c.args.self.now c.args.was c.in-Some.number c.empty-else-eq.result c.args.worked
-    c.in-Some-entry.entry.now
-    c.in-Some.is at (sym c.eq.ensures ∙ c.if-eq.false) c.empty-else-eq.ensures
+    other_work c.args.self.now c.args.was c.in-Some.number c.empty-else-entry-worked.result
+    c.args.worked c.in-Some-entry.entry.now c.in-Some.is at
+    (false_from_ne_true (eqb c.in-Some-entry.entry.now.op c.args.worked)
+    (λ same. c.if-entry-worked.false (eqb-true c.in-Some-entry.entry.now.op c.args.worked same)))
+    c.empty-else-entry-worked.ensures

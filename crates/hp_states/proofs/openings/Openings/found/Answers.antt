@@ -1,6 +1,5 @@
 -- The entry that is found has the operation, the state and the earlier list.
 use Rattle.std.proofs.Common.{◌≡◌, ℕ, List, ◌∷◌, Some, ap, slice_get, sym, ◌∙◌}
-use Rattle.std.proofs.lemmas.Bool.{eqb-true}
 use Rattle.std.proofs.lemmas.Option.{same_Some}
 use Rattle.hp_schedules.specs.Openings.{NumberedOpening}
 use Rattle.hp_states.specs.Numbered.{IsEntryOf, IsInFront}
@@ -23,5 +22,5 @@ pub returns-then-entry-state : goal.returns-then-entry-state
 returns-then-entry-state c =
     let e = c.in-Some-entry.entry.now in
     is_front c.args.self.now e c.args.op c.args.state c.args.below c.in-Some.number.now
-    c.in-Some-entry.ensures.some (eqb-true e.op c.args.op (sym c.eq.ensures ∙ c.if-eq.true))
+    c.in-Some-entry.ensures.some c.if-entry-op.true
     c.if-entry-below.true c.if-entry-state.true

@@ -1,7 +1,7 @@
 -- A key that begins with the numbers of the place gets the parts of all processors.
 use Rattle.std.proofs.Common.{ap, subst, sym, ◌∙◌}
 use Rattle.std.proofs.lemmas.Result.{IfOk-weaker}
-use Rattle.hp_states.specs.Standing.{StandingValue}
+use Rattle.hp_states.specs.Standing.{StandingValue, plainly}
 use Rattle.hp_states.specs.Stops.{AreNumbersAt, AreStopsAt, StopsValue}
 use Rattle.hp_states.proofs.Keys.{key_made}
 use Rattle.hp_states.proofs.standing.Standing.key.Goals as goal
@@ -20,7 +20,7 @@ returns c =
     (λ fit made whole g news at stands. key_made g c.args.self.now news two.0 two.1
     c.args.processors c.clear.new.self.items c.push_numbers.new.numbers.items
     c.push_parts.new.key.items (c.requires.processors ∙ at.many)
-    (subst (λ (s : StopsValue). AreNumbersAt g news s two.0 two.1) stops_are
-    (two.3 g news (subst (AreStopsAt g news) (sym stops_are) stands.stops)))
+    (subst (λ (s : StopsValue). AreNumbersAt (plainly news) g news s two.0 two.1) stops_are
+    (two.3 plainly g news (subst (AreStopsAt plainly g news) (sym stops_are) stands.stops)))
     c.clear.ensures.items two.2 (made whole g news at stands))
     c.push_parts.ensures

@@ -8,17 +8,17 @@ use Rattle.hp_states.proofs.stops.Stops.go_back.Goals as goal
 
 pub returns-clause-back : goal.returns-clause-back
 returns-clause-back c =
-    λ g news r are.
+    λ at g news r are.
     let old : StopsValue = record {
       codes = c.self.inside.codes;
       lists = c.self.inside.openings;
       here = c.self.inside.here;
       before = c.self.inside.before.items;
     } in
-    went_back g news r old (record {
+    went_back at g news r old (record {
       codes = c.self.inside.codes;
       lists = c.self.inside.openings;
-      here = c.known_of-here.result;
+      here = c.unwrap_or-here.result;
       before = c.pop.new.self.items;
     }) c.pop.new.self.items c.pop.result refl refl c.pop.ensures.items
     (λ none. let empty =
@@ -26,4 +26,4 @@ returns-clause-back c =
     ((vec_len c.self.inside.before ≡ 0) × (vec_len c.pop.new.self ≡ 0))
     (λ _. vec_len c.pop.new.self + 1 ≡ vec_len c.self.inside.before)) none c.pop.ensures.cases in
     nil_from_length c.pop.new.self.items (sym c.pop.new.self.ok.0 ∙ empty.1))
-    c.known_of-here.ensures refl (subst (AreStopsAt g (news ++ r ∷ [])) (sym c.self.view_is) are)
+    c.unwrap_or-here.ensures refl (subst (AreStopsAt at g (news ++ r ∷ [])) (sym c.self.view_is) are)

@@ -1,32 +1,36 @@
 -- The state has a number now.
-use Rattle.std.proofs.Common.{Some, refl, subst, sym}
+use Rattle.std.proofs.Common.{ℕ, Some, refl, subst, sym}
+use Rattle.hp_renumbering.specs.Renumbered.{renumbered}
+use Rattle.hp_states.specs.Codes.{IsCoded}
 use Rattle.hp_states.specs.Stops.{AreStopsAt, StopsValue}
 use Rattle.hp_states.proofs.StopNumbers.{coded_more, state_known}
 use Rattle.hp_states.proofs.stops.Stops.number_state.Goals as goal
 
 pub returns-clause-here : goal.returns-clause-here
 returns-clause-here c =
-    λ g news memory are.
+    λ at g news numbers memory are.
     let old : StopsValue = record {
       codes = c.self.inside.codes;
       lists = c.self.inside.openings;
       here = c.self.inside.here;
       before = c.self.inside.before.items;
     } in
-    state_known g news old (record {
+    state_known at g news old (record {
       codes = c.number_of.new.self;
       lists = c.self.inside.openings;
       here = record { openings = c.self.inside.here.openings; state = Some c.in_ok-state.state };
       before = c.self.inside.before.items;
     }) c.args.memory.now c.in_ok-state.state c.number_of.ensures.kept refl refl refl
-    c.in_ok-state.ensures.ok memory (subst (AreStopsAt g news) (sym c.self.view_is) are)
+    (subst (λ (p : ℕ → ℕ). IsCoded c.args.memory.now.layout c.number_of.new.self c.in_ok-state.state
+    (renumbered p c.args.memory.now.state)) (sym numbers) c.in_ok-state.ensures.ok) memory
+    (subst (AreStopsAt at g news) (sym c.self.view_is) are)
 
 pub returns-in_err-state-clause-here : goal.returns-in_err-state-clause-here
 returns-in_err-state-clause-here c =
-    λ g news memory are. coded_more g news (record {
+    λ at g news numbers memory are. coded_more at g news (record {
       codes = c.self.inside.codes;
       lists = c.self.inside.openings;
       here = c.self.inside.here;
       before = c.self.inside.before.items;
     }) c.number_of.new.self c.number_of.ensures.kept
-    (subst (AreStopsAt g news) (sym c.self.view_is) are)
+    (subst (AreStopsAt at g news) (sym c.self.view_is) are)

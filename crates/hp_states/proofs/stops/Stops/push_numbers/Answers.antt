@@ -12,10 +12,10 @@ returns c =
       c.in-Some.state,
       c.in-Some-openings.openings,
       made whole,
-      λ g news are. (
-        subst (IsStateAt g c.args.self.now.codes news)
+      λ at g news are. (
+        subst (IsStateAt (at news) g c.args.self.now.codes news)
             (sym (ap (λ (s : StopsValue). s.here.state) c.self.view_is) ∙ c.in-Some.is) are.1,
-        subst (IsNumbered g c.args.self.now.codes c.args.self.now.lists news)
+        subst (IsNumbered (at news) g c.args.self.now.codes c.args.self.now.lists news)
             (sym (ap (λ (s : StopsValue). s.here.openings) c.self.view_is) ∙ c.in-Some-openings.is) are.0,
       ),
     ))

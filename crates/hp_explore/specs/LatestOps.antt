@@ -1,0 +1,62 @@
+-- The operation that each processor began last. A search renumbers operations by these.
+use Rattle.std.specs.Prelude.{◌≡◌, ℕ, Bool, true, false, if◌then◌else◌, List, [], ◌∷◌, ◌++◌, fold, length, map, reverse}
+use Rattle.std.specs.List.{range_with_len}
+use Rattle.hp_units.specs.Receipts.{receipts_of}
+use Rattle.hp_units.specs.declared.replies.Record.{Record}
+use Rattle.hp_renumbering.specs.Numberings.{number_of}
+use Rattle.hp_schedules.specs.Openings.{change_of}
+use Rattle.hp_schedules.specs.Schedules.{Setting}
+use Rattle.hp_schedules.specs.Scripts.{greatest_named, own_operation}
+use Rattle.hp_explore.specs.declared.latest_ops.LatestOps.{LatestOps}
+use Rattle.hp_schedules.specs.declared.changes.Change.{Change}
+use Rattle.hp_schedules.specs.declared.changes.Change.TheVariants.{Stays, Begins, Works, Cancels, Ends}
+
+-- the operation that each processor with a script began last
+abbrev pub ops_after : Setting → List Record → List ℕ
+ops_after g news = map (λ cpu. own_operation (receipts_of cpu news)) (range_with_len 0 (length g.scripts))
+
+-- no Cancel can take back an earlier step after the change
+abbrev pub is_end : Change → Bool
+is_end Stays = false
+is_end Begins = false
+is_end (Works op) = false
+is_end (Cancels op) = false
+is_end Ends = true
+
+-- the new records so far, and their beginning up to the latest one after which no Cancel can take back
+-- an earlier step
+pub record Ended : Type 0 where
+  pub all : List Record
+  pub kept : List Record
+
+-- the records and their kept beginning, after one more record
+abbrev pub ended_with : Ended → Record → Ended
+ended_with e r = record {
+  all = e.all ++ r ∷ [];
+  kept = if is_end (change_of r) then e.all ++ r ∷ [] else e.kept;
+}
+
+-- the records and their kept beginning
+abbrev pub ended : List Record → Ended
+ended news = fold ended_with (record { all = []; kept = [] }) news
+
+-- the operations by which a search renumbers at the place after the new records: the operation that
+-- each processor had begun last, at the latest time when a Cancel had nothing to take back
+unfoldable pub ops_at : Setting → List Record → List ℕ
+ops_at g news = ops_after g (ended news).kept
+
+-- the number of an operation at the place after the new records. Operations that a script names by
+-- number keep theirs
+abbrev pub numbering : Setting → List Record → ℕ → ℕ
+numbering g news op = number_of (greatest_named g.scripts) (ops_at g news) op
+
+-- the lists of operations at the places that the new records lead through, latest place first
+abbrev pub AreLatests : Setting → (news : List Record) → List (List ℕ) → Type 0
+AreLatests g news [] = ⊥
+AreLatests g news (ops ∷ earlier) =
+    (ops ≡ ops_at g news)
+    × ((before : List Record) (r : Record) → news ≡ before ++ r ∷ [] → AreLatests g before earlier)
+
+-- `l` holds the operations at the place after the new records and at the places before it
+abbrev pub AreLatestAt : Setting → (news : List Record) → LatestOps → Type 0
+AreLatestAt g news l = AreLatests g news (l.here.items ∷ reverse (map (λ ops. ops.items) l.before.items))

@@ -1,0 +1,122 @@
+//! The latest operation of each processor, by which a search numbers operations.
+ghost use Rattle.std.specs.Prelude.{◌≡◌, ◌++◌, ◌∷◌, [], IfOk, List, OnOk, length};
+ghost use Rattle.hp_units.specs.declared.replies.Record.{Record as NewRecord};
+ghost use Rattle.hp_schedules.specs.Cursors.{AreCursors};
+ghost use Rattle.hp_schedules.specs.Openings.{change_of};
+ghost use Rattle.hp_schedules.specs.Schedules.{Setting};
+ghost use Rattle.hp_explore.specs.LatestOps.{AreLatestAt, is_end, ops_after};
+
+use hp_schedules::{Change, Positions, change_of};
+use hp_units::{Record, Serial};
+use std::alloc::{AllocError, Global};
+use std::marker::Model;
+
+/// The operations that the processors began last, at the place where a search is and at each place
+/// before it.
+///
+/// They are read anew only after a call that leaves nothing for a Cancel to take back. So all
+/// states that a Cancel can lead back to are numbered like the current one.
+pub(crate) struct LatestOps {
+    here: Vec<Serial>,
+    before: Vec<Vec<Serial>>,
+}
+
+/// Keeps callers from proving again how each field is dropped.
+impl Drop for LatestOps {
+    fn drop(self) {
+        let LatestOps { here: _, before: _ } = self;
+    }
+}
+
+impl LatestOps {
+    /// Creates those before any call, where the processors have these positions.
+    pub(crate) fn start(
+        alloc: Global,
+        positions: &Positions,
+        processors: u32,
+    ) -> Result<LatestOps, AllocError>
+        requires { processors ≡ length positions.now.cursors.items }
+        ensures { IfOk result (λ ops. (g : Setting) → AreCursors g [] positions.now.cursors.items
+            → AreLatestAt g [] ops) }
+    {
+        let here = operations(alloc, positions, processors)?;
+        Ok(LatestOps {
+            here,
+            before: Vec::new(alloc),
+        })
+    }
+
+    /// Returns those at the place, from processor 0 on.
+    pub(crate) fn here(&self) -> &[Serial]
+        ensures { result.now ≡ self.now.here.items }
+    {
+        self.here.as_slice()
+    }
+
+    /// Moves to the place after a call, where the processors have these positions.
+    pub(crate) fn go_on(
+        &mut self,
+        alloc: Global,
+        call: &Record,
+        positions: &Positions,
+        processors: u32,
+    ) -> Result<(), AllocError>
+        requires { processors ≡ length positions.now.cursors.items }
+        ensures { OnOk result ((g : Setting) (news : List NewRecord)
+            → AreCursors g (news ++ call.now ∷ []) positions.now.cursors.items
+            → AreLatestAt g news self.old → AreLatestAt g (news ++ call.now ∷ []) self.new) }
+    {
+        let next = if leaves_nothing(call) {
+            operations(alloc, positions, processors)?
+        } else {
+            copy_of(alloc, self.here.as_slice())?
+        };
+        self.before.reserve(1)?;
+        let was = std::mem::replace(&mut self.here, next);
+        self.before.push_reserved(was);
+        Ok(())
+    }
+
+    /// Moves back to the place before the latest call.
+    pub(crate) fn go_back(&mut self)
+        ensures { (g : Setting) (news : List NewRecord) (r : NewRecord)
+            → AreLatestAt g (news ++ r ∷ []) self.old → AreLatestAt g news self.new }
+    {
+        if let Some(was) = self.before.pop() {
+            self.here = was;
+        }
+    }
+}
+
+/// Returns whether the call leaves nothing for a Cancel to take back.
+fn leaves_nothing(call: &Record) -> bool
+    ensures { result ≡ is_end (change_of call.now) }
+{
+    matches!(change_of(call), Change::Ends)
+}
+
+/// Returns the operation that each processor began last, from processor 0 on.
+fn operations(
+    alloc: Global,
+    positions: &Positions,
+    processors: u32,
+) -> Result<Vec<Serial>, AllocError>
+    requires { processors ≡ length positions.now.cursors.items }
+    ensures { IfOk result (λ ops. (g : Setting) (news : List NewRecord)
+        → AreCursors g news positions.now.cursors.items → ops.items ≡ ops_after g news) }
+{
+    let mut ops = Vec::new(alloc);
+    for cpu in 0..processors {
+        ops.push(positions.operation(cpu))?;
+    }
+    Ok(ops)
+}
+
+/// Returns a copy of these numbers.
+fn copy_of(alloc: Global, numbers: &[Serial]) -> Result<Vec<Serial>, AllocError>
+    ensures { IfOk result (λ copy. copy.items ≡ numbers.now) }
+{
+    let mut copy = Vec::new(alloc);
+    copy.extend_from_slice(numbers)?;
+    Ok(copy)
+}

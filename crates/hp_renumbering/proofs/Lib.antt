@@ -1,0 +1,4 @@
+pub mod RenumberedRows
+pub mod RenumberedSteps
+pub mod Alike
+pub mod Numbered

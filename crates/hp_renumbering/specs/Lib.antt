@@ -1,0 +1,2 @@
+pub mod Numberings
+pub mod Renumbered
