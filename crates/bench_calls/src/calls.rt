@@ -146,8 +146,8 @@ fn call_of(alloc: Global, line: Line) -> Result<Call> {
 
 /// Makes calls, and returns the checksum of their replies, continued from `sum`.
 ///
-/// Each reply is read where the call left it, as in the peer: handing it on in a `Result` of anyhow
-/// would copy it, with room for an error.
+/// Each reply is read where the call left it, as in `bench/peer`. Handing it on in a `Result` of
+/// anyhow would copy it, with room for an error.
 fn make_calls(alloc: Global, machine: &mut Machine, calls: &[Call], sum: u64) -> Result<u64> {
     let mut sum = sum;
     for call in calls {

@@ -1,10 +1,10 @@
 //! Times calls of a machine, without any text: `bench_calls [RUNS [PART]] < SCENARIO`.
 //!
-//! It reads a scenario whose lines each ask for one event, as the peer's `gen_big .. --events`
-//! writes them, makes their calls on machines just booted, and prints for each run the nanoseconds
-//! per call and the checksum of the replies. With PART it seals the machine after every PART calls,
-//! which keeps the history that short. With no argument it makes the calls once and prints no time,
-//! so that its output is always the same.
+//! It reads a scenario whose lines each ask for one event, as `gen_big .. --events` of `bench/peer`
+//! writes them. It makes their calls on machines just booted, and prints for each run the
+//! nanoseconds per call, the time of the seals and the checksum of the replies. With PART it seals
+//! the machine after every PART calls, which keeps the history that short. With no argument it
+//! makes the calls once and prints no time, so that its output is always the same.
 #![tactic(auto)]
 
 mod calls;

@@ -11,7 +11,7 @@ use std::test::Fail;
 /// Takes a block of two frames for the kernel.
 const TAKE: Event = Event::KernelAlloc { order: Order(1) };
 
-/// Gives that block back.
+/// Gives back the block of two frames that starts at frame 0.
 const GIVE: Event = Event::KernelFree { frame: Frame(0) };
 
 /// Returns a record of processor 0.
@@ -30,8 +30,8 @@ fn undo_of(serial: u64, to: u64, reply: Reply) -> Record {
     record_of(serial, undo, reply)
 }
 
-/// Returns three records: a block is taken, given back, and both steps are undone; the undo's reply
-/// is that `count` steps were.
+/// Returns three records: a block is taken, given back, and both steps are undone. The reply to the
+/// undo has this count of steps.
 fn undone(alloc: Global, count: u64) -> Result<Vec<Record>, AllocError> {
     let mut records = Vec::with_capacity(alloc, 3)?;
     records.push(record_of(1, TAKE, Reply::Frame(Frame(0))))?;
@@ -40,7 +40,7 @@ fn undone(alloc: Global, count: u64) -> Result<Vec<Record>, AllocError> {
     Ok(records)
 }
 
-/// Returns the same records without the second.
+/// Returns the records of `undone` with the right count, without the second record.
 fn with_a_gap(alloc: Global) -> Result<Vec<Record>, AllocError> {
     let mut records = Vec::with_capacity(alloc, 2)?;
     records.push(record_of(1, TAKE, Reply::Frame(Frame(0))))?;
@@ -101,7 +101,7 @@ fn first_volume(alloc: Global, machine: &mut Machine) -> Result<Volume, Fail> {
 
 /// Makes the calls after the first seal and seals again. Returns the volume.
 ///
-/// Sealed steps cannot be undone any more; then a block is taken.
+/// An undo of sealed steps is refused, an undo that drops no step is done, and a block is taken.
 fn second_volume(alloc: Global, machine: &mut Machine) -> Result<Volume, Fail> {
     let gone = Reply::Refused(Refusal::Gone);
     let none = Reply::Undone { count: 0 };

@@ -10,7 +10,7 @@ use std::test::Fail;
 /// Takes a block of two frames for the kernel.
 const TAKE: Event = Event::KernelAlloc { order: Order(1) };
 
-/// Gives that block back.
+/// Gives back the block of two frames that starts at frame 0.
 const GIVE: Event = Event::KernelFree { frame: Frame(0) };
 
 /// Returns a record of processor 0.

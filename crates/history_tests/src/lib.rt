@@ -1,12 +1,12 @@
 //! Tests of histories on a small layout: what they begin with, what they record and take back, and
 //! how they are sealed, replayed and audited.
 //!
-//! `images` and `placed` test the state as a value that a history begins with (hp_plain), `courses`
-//! its records (hp_history), `machines` and `undone` a machine that keeps one (hp_machine), `chains`
-//! replays and chains of volumes (hp_replays). The layout is that of layouts_for_tests.
-//! `sealed` has what the laws of histories say of a machine, sealed or not, proved from what
-//! hp_laws, hp_history and hp_machine make public alone; `machines` calls it. Run the tests by
-//! `rt test` in this folder.
+//! `images` and `placed` test the state as a value that a history begins with (hp_plain), and
+//! `courses` its records (hp_history). `machines` and `undone` test a machine that keeps a history
+//! (hp_machine), and `chains` replays and chains of volumes (hp_replays). The layout is that of
+//! layouts_for_tests. `sealed` has what the laws of histories say of a machine, sealed or not,
+//! proved from what hp_laws, hp_history and hp_machine make public alone; `machines` calls it. Run
+//! the tests by `rt test` in this folder.
 #![tactic(auto)]
 
 #[cfg(test)]

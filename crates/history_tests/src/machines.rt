@@ -54,7 +54,7 @@ fn moves_a_page(alloc: Global, machine: &mut Machine) -> Result<bool, AllocError
     Ok(mapped && end == OpEnd::Done && moved && is_offline(machine))
 }
 
-/// Returns whether the history has no room for one more call.
+/// Makes one more call, and returns whether the history has no room for it.
 fn is_full(alloc: Global, machine: &mut Machine) -> bool {
     match machine.call(alloc, Cpu(0), &Event::Drain { cpu: Cpu(0) }) {
         Ok(_receipt) => false,

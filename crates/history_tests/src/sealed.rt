@@ -43,7 +43,8 @@ pub fn hands_out_plugged_frames(machine: &Machine)
     handed_frames_are_plugged();
 }
 
-/// Commits an operation. If nothing disturbed it since its begin, the reply is `Done`.
+/// Commits an operation. If nothing disturbed the operation since its Begin (`IsUndisturbed`), and
+/// the layout has the processor, a reply is `Done`.
 pub fn commit(
     alloc: Global,
     machine: &mut Machine,

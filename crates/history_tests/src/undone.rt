@@ -31,8 +31,9 @@ fn offline(alloc: Global) -> Result<Plan, AllocError> {
     Plan::new(alloc, items)
 }
 
-/// Returns the nth event before the begin: a kernel block is taken, and a page is mapped, written
-/// and read.
+/// Returns the nth event before the Begin. A kernel block is taken and later given back, and a page
+/// is mapped, written and read. Then a processor's lists are drained, and a memory block is added
+/// and taken online.
 fn first_event(nth: u64) -> Event {
     match nth {
         1 => Event::KernelAlloc { order: Order(1) },

@@ -48,9 +48,9 @@ fn run_here<T: Threads + Wait + Sync, R: Read + Drop, W: Write + Drop>(
 
 /// Runs a command on an input and an output, on a thread of its own if it starts threads.
 ///
-/// The kernel grows the main thread's stack as it is used, and ends the process if the address
-/// space is full by then, as it may be once there are many threads. The stack of another thread is
-/// mapped at once. If none can be made, the command runs on this one.
+/// The kernel grows the main thread's stack as it is used. It ends the process if the address space
+/// is full by then, which many threads can cause. The stack of another thread is mapped at once. If
+/// none can be made, the command runs on this one.
 fn run<T: Threads + Wait + Sync, R: Read + Drop + Send, W: Write + Drop + Send>(
     rt: &T,
     command: Command,

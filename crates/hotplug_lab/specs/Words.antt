@@ -30,27 +30,27 @@ use Rattle.hp_lab_shell.specs.declared.words.Word.{Word}
 use Rattle.hp_lab_shell.specs.declared.words.Word.TheVariants.{Check, Explore, Find, Log, Never, Part, Picture, Sum, Told, Trace}
 use Rattle.hp_lab_shell.specs.Needs.{HasLines, IsPastEnd}
 
--- the text of an exploration, whatever ended it; the status is 0 if it finds what was asked for, and 3
--- if not
+-- the text of an exploration, whatever ended it; the status is 0 if it finds what was asked for,
+-- and 3 if not
 abbrev pub IsExploringOf : ExploreOptions → EndsForm → Option GroupBy → (input text : List ℕ)
     → (status : ℕ) → Type 0
 IsExploringOf asked form by input text status =
     (found : Bool) × IsExplorationOf form by input asked.setup asked.limit (Unit {0}) text found
     × (status ≡ (if found then 0 else 3))
 
--- the text of one part
+-- the text and the exit status of the exploration of one part
 abbrev pub IsPartialOf : ExploreOptions → NumberValue → (input text : List ℕ) → (status : ℕ) → Type 0
 IsPartialOf asked part input text status =
     (found : Bool) × IsPartOf part input asked.setup asked.limit (Unit {0}) text found
     × (status ≡ (if found then 0 else 3))
 
--- the text of all parts added up
+-- the text of all parts added up, and the exit status
 abbrev pub IsAddedOf : EndsForm → (input text : List ℕ) → (status : ℕ) → Type 0
 IsAddedOf form input text status =
     (found : Bool) × IsSumOf form input text found × (status ≡ (if found then 0 else 3))
 
--- the exit status of a search: one if it found an interleaving, another if there is none, and 3 if that
--- is not known
+-- the exit status of a search: one if it found an interleaving, another if there is none, and 3 if
+-- that is not known
 abbrev pub find_status : FindResult → (found_status absent_status : ℕ) → ℕ
 find_status Found found_status absent_status = found_status
 find_status Absent found_status absent_status = absent_status
@@ -81,8 +81,8 @@ IsAnswerOf (Told form) input text status = HasJson form input text × (status �
 abbrev pub Answers : Word → (input text : List ℕ) → (status : ℕ) → Type 0
 Answers word input text status = HasLines word input × IsAnswerOf word input text status
 
--- why a command fails: the fault of the exploration or the search, or of the scenario that is traced.
--- Other commands only run out of memory
+-- when a command fails with a LabFault: an exploration or a search if it has this fault, and any
+-- other command if memory runs out
 abbrev pub IsLabCause : Word → (input : List ℕ) → LabFault → Type 0
 IsLabCause (Check setup) input fault = fault ≡ OutOfMemory
 IsLabCause (Explore asked form by jobs) input fault = IsFaultWithin input asked.setup asked.limit fault
@@ -130,18 +130,19 @@ abbrev pub ServesText : Word → (input : List ℕ) → (old new : Option (List 
 ServesText word input old new status =
     (text : List ℕ) × Appends old new text × Answers word input text status
 
--- the same for the bytes that were read
+-- the command's text for the bytes that were read was written, and nothing else, with this status
 abbrev pub Serves : Word → (known old new : Option (List ℕ)) → (status : ℕ) → Type 0
 Serves word known old new status = IfSome known (λ input. ServesText word input old new status)
 
--- when each fault comes if the input has been read; `written` means that a call of the writer failed
+-- when each fault comes if the input has been read; `written` means that a call of the writer
+-- failed
 abbrev pub IsTextFault : Word → (input : List ℕ) → (written : Type 0) → LabProgramFault → Type 0
 IsTextFault word input written (Lab fault) = (fault ≡ OutOfMemory) ⊎ IsLabCause word input fault
 IsTextFault word input written WriteFailed = written
 IsTextFault word input written fault = IsUnanswered word input fault
 
--- when each fault comes; `read` and `written` mean that a call of the reader or the writer failed. No
--- file is opened here
+-- when each fault comes; `read` and `written` mean that a call of the reader or the writer failed.
+-- No file is opened here
 abbrev pub IsServeFault : Word → (known : Option (List ℕ)) → (read written : Type 0) → LabProgramFault
     → Type 0
 IsServeFault word known read written NotOpened = ⊥

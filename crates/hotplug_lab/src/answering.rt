@@ -56,7 +56,7 @@ pub(crate) fn answer_to<W: Watch>(
     }
 }
 
-/// Explores every interleaving of the scripts, in `jobs` threads.
+/// Explores the interleavings of the scripts, at most `asked.limit` of them, in `jobs` threads.
 fn explored<W: Watch>(
     rt: &(impl Threads + Sync),
     alloc: Global,
@@ -76,7 +76,7 @@ fn explored<W: Watch>(
     Ok(answer_with(finding, 0, 3))
 }
 
-/// Searches one part of an exploration.
+/// Explores one part of the interleavings of the scripts, at most `asked.limit` of them.
 fn partial<W: Watch>(
     alloc: Global,
     input: &[u8],
@@ -92,7 +92,7 @@ fn partial<W: Watch>(
     Ok(answer_with(finding, 0, 3))
 }
 
-/// Adds up all parts of an exploration.
+/// Adds up the results of all parts of an exploration.
 fn summed(alloc: Global, input: &[u8], form: EndsForm) -> Result<TextAndStatus, LabProgramFault>
     ensures ok { IfOk result
         (λ answer. IsAddedOf form input.now (string_bytes answer.text) answer.status) }
@@ -120,8 +120,8 @@ fn found<W: Watch>(
     Ok(find_answer(finding, 0, 3))
 }
 
-/// Searches in the same way. The status is 0 if there is no such interleaving, and 3 if there is
-/// one or it is not known.
+/// Searches for an interleaving whose end has each of the wanted lines, to show that there is none.
+/// The status is 0 if there is none, and 3 if there is one or it is not known.
 fn never<W: Watch>(
     alloc: Global,
     input: &[u8],
@@ -138,8 +138,8 @@ fn never<W: Watch>(
     Ok(find_answer(finding, 3, 0))
 }
 
-/// Returns the text of a search for an end, with the status `found` if it found one, `absent` if
-/// there is none, and 3 if it does not know.
+/// Returns the text of a search for an end. The status is `found` if it found one, `absent` if
+/// there is none, and 3 if that is not known.
 fn find_answer(finding: FindText, found: u8, absent: u8) -> TextAndStatus
     ensures text { string_bytes result.text ≡ string_bytes finding.text }
     ensures status { result.status ≡ find_status finding.result found absent }

@@ -1,11 +1,11 @@
 //! Looks into scenarios of the memory machine: `hotplug_lab WORD` reads a file or standard input,
 //! and writes to standard output.
 //!
-//! Libraries write the texts: hp_check that of `check`; hp_search that of `explore`, and
-//! hp_part_files that of its parts and their `sum`; hp_trace that of `trace` and its log, and
-//! hp_svg its picture; hp_verdicts that of `judge`, and hp_explain that of `explain`. hp_lab_shell
-//! has the command line, the files and the messages, and runs `judge`, `explain` and `live`; this
-//! program runs the other commands.
+//! Libraries write the texts. hp_check writes that of `check`. hp_search writes that of `explore`,
+//! and hp_part_files that of its parts and their `sum`. hp_trace writes that of `trace` and its
+//! log, and hp_svg its picture. hp_verdicts writes that of `judge`, and hp_explain that of
+//! `explain`. hp_lab_shell has the command line, the files and the messages, and runs `judge`,
+//! `explain` and `live`; this program runs the other commands.
 //!
 //! The exit status is:
 //! - 1 after a fault, which standard error names, and after a check that finds faults,
@@ -63,9 +63,9 @@ impl Laboratory for Searches {
 
 /// Runs the program on a thread of its own, whose stack is mapped at once.
 ///
-/// The kernel grows the main thread's stack as it is used, and ends the process if the address
-/// space is full by then, as it may be with many jobs. If no thread can be made, the program runs
-/// on this one.
+/// The kernel grows the main thread's stack as it is used. It ends the process if the address space
+/// is full by then, which many jobs can cause. If no thread can be made, the program runs on this
+/// one.
 fn main(rt: HostRuntime) -> ExitCode {
     let (code, ()) = thread::join(&rt, || run_program(&rt, &Searches, &rt), || ());
     code

@@ -15,9 +15,11 @@ use hp_streams::{Failed, Sink, Source, read_all, write_all};
 use std::alloc::Global;
 use std::thread::Threads;
 
-/// Reads a scenario, runs a command on it, and writes the text. Returns the exit status, with the
-/// script lines that deserve a warning. `watch` gets the progress of a search, and is dropped
-/// before anything is written.
+/// Reads a scenario, runs a command on it, and writes the text. `watch` gets the progress of a
+/// search, and is dropped before anything is written.
+///
+/// Returns the exit status. If the command searches interleavings, also returns, per processor, the
+/// first script line that works on operation 0 although the processor has begun none.
 pub fn serve_word<R: Source, W: Sink, P: Watch + Drop>(
     rt: &(impl Threads + Sync),
     alloc: Global,
@@ -29,12 +31,13 @@ pub fn serve_word<R: Source, W: Sink, P: Watch + Drop>(
     requires reader { R.failures reader.old < 2 ^ 64 - 1 }
     requires writer { W.failures writer.old < 2 ^ 64 - 1 }
 
-    // The reader gave all that it had, at most the limit.
+    // The reader is at its end, and what it gave was not longer than the limit.
     ensures read { OnOk result (ReadsAll (R.remaining reader.old) (R.remaining reader.new)) }
     // The writer got the command's text for the bytes that were read, and nothing else.
     ensures ok { IfOk result (λ served. Serves word.entry (R.remaining reader.old) (W.contents writer.old)
         (W.contents writer.new) served.status) }
-    // The script lines that deserve a warning.
+    // Per processor, the first script line that works on operation 0 before that processor begins
+    // one.
     ensures told { IfOk result (λ served. IfSome (R.remaining reader.old)
         (λ input. served.unbegun.items ≡ unbegun_of word.entry (named_in input))) }
     // After any fault but `WriteFailed`, nothing was written.
@@ -49,7 +52,8 @@ pub fn serve_word<R: Source, W: Sink, P: Watch + Drop>(
     serve_text(rt, alloc, word, &input, writer, watch)
 }
 
-/// Runs a command on a text that has been read, and writes the result, as `serve_word` does.
+/// Runs a command on the text of a scenario, and writes the result. Does and returns what
+/// `serve_word` does and returns after it has read that text.
 pub fn serve_text<W: Sink, P: Watch + Drop>(
     rt: &(impl Threads + Sync),
     alloc: Global,

@@ -27,8 +27,8 @@ pub record AreApart (l : LayoutParts) (a : FreeAreas) : Type 0 where
 
 -- ---- what a block must be to come back
 
--- its order is in the layout, it lies within the frames at a multiple of its size, and none of its
--- frames is in a free block
+-- a block may be given back: its order is in the layout, and it lies within the frames at a
+-- multiple of its size. None of its frames is in a free block
 pub record MayBeGiven (l : LayoutParts) (a : FreeAreas) (order first : ℕ) : Type 0 where
   pub in_order : order ≤ l.order
   pub aligned : first % 2 ^ order ≡ 0
@@ -37,7 +37,8 @@ pub record MayBeGiven (l : LayoutParts) (a : FreeAreas) (order first : ℕ) : Ty
 
 -- ---- in how many free blocks a frame is, with one block more
 
--- the frames of the block are in one free block more, all others in equally many
+-- in `more`, each frame of the block is in one free block more than in `less`; all others are in
+-- equally many
 abbrev pub HasBlockMore : (more less : FreeAreas) → (order first : ℕ) → Type 0
 HasBlockMore more less order first =
     (frame : ℕ) → free_places more frame ≡ free_places less frame + covered frame order first
@@ -66,7 +67,7 @@ next_of a frame = next_from frame a.lists
 
 -- ---- how the areas are stored
 
--- the tables are those of the layout
+-- the tables have the sizes of the layout
 pub record IsBuddyOf (l : LayoutParts) (links : LinkedLists) (kinds : List Kind) : Type 0 where
   pub layout : IsLayout l
   pub frame_count : links.frame_count ≡ frame_count l

@@ -14,7 +14,7 @@ move_one a from to order frame =
 abbrev pub free_one : FreeAreas → Class → (order frame : ℕ) → ℕ
 free_one a class order frame = if is_on frame (free_list a class order) then 1 else 0
 
--- how many start at the `count` frames from `first` on
+-- how many free blocks of this class and order start at the `count` frames from `first` on
 abbrev pub free_count : FreeAreas → Class → (order first count : ℕ) → ℕ
 free_count a class order first zero = 0
 free_count a class order first (suc count) =

@@ -160,9 +160,11 @@ impl Buddy {
         }
     }
 
-    /// Takes a block: the front block of the least order at which the class has one, split down to
-    /// `order` (Knuth, volume 1, section 2.5, reservation; which end of the list is this model's
-    /// choice). Returns `None`, and changes nothing, if the class has none.
+    /// Takes a block: the front block of the least order, from `order` up, at which the class has
+    /// one. It is split down to `order` (Knuth, volume 1, section 2.5, reservation; which end of
+    /// the list is this model's choice).
+    ///
+    /// Returns `None`, and changes nothing, if the class has no block of `order` or above.
     pub fn take(&mut self, class: Class, order: Order, tape: &mut Tape) -> Option<Frame>
         requires order { order ≤ self.old.layout.order }
         requires apart { AreApart self.old.layout self.old.areas }
@@ -184,11 +186,12 @@ impl Buddy {
         }
     }
 
-    /// Steals a block for a mobility of zone Normal: the front block of the greatest order at which
-    /// the other mobility has one, split down to `order` (Gorman, chapter 6: fallback; the exact
-    /// rule is this model's). A whole pageblock changes to the wanted mobility.
+    /// Steals a block for a mobility of zone Normal: the front block of the greatest order, down to
+    /// `order`, at which the other mobility has one. It is split down to `order` (Gorman, chapter
+    /// 6: fallback; the exact rule is this model's). A whole pageblock changes to the wanted
+    /// mobility.
     ///
-    /// Returns `None`, and changes nothing, if the other mobility has none.
+    /// Returns `None`, and changes nothing, if the other mobility has no block of `order` or above.
     pub fn steal(&mut self, wanted: Mobility, order: Order, tape: &mut Tape) -> Option<Frame>
         requires order { order ≤ self.old.layout.order }
         requires apart { AreApart self.old.layout self.old.areas }

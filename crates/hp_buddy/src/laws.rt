@@ -8,7 +8,8 @@ ghost use Rattle.hp_units.specs.Placement.{IsWellPlaced};
 ghost use Rattle.hp_buddy.specs.Buddy.{AreApart, MayBeGiven};
 
 /// In a well placed state the free blocks lie within the frames, at multiples of their sizes, and
-/// no frame is in two of them (Knuth, volume 1, section 2.5). Each call requires this of the areas.
+/// no frame is in two of them (Knuth, volume 1, section 2.5). Calls that change the areas require
+/// this.
 pub fn well_placed_blocks_are_apart()
     ensures { (l : LayoutParts) (s : Memory) → IsLayout l → IsWellPlaced l s → AreApart l s.free.areas }
 {}

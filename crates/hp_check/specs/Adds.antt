@@ -18,7 +18,8 @@ abbrev pub IsFirst : Option ScenarioFault → List Finding → Type 0
 IsFirst None added = added ≡ []
 IsFirst (Some fault) added = Begins fault added
 
--- findings with the property P were added, and the first of them reports the fault
+-- findings with the property P were added, and the first of them reports the fault; without a
+-- fault, none were added
 pub record Adds (P : Finding → Type 0) (fault : Option ScenarioFault) (old new : List Finding) : Type 0 where
   pub added : List Finding
   pub is : new ≡ old ++ added
@@ -44,7 +45,8 @@ out_fault number (Some out) = Some (Layout (fault_of out))
 abbrev pub limit_fault : LayoutParts → Option ScenarioFault
 limit_fault l = option_map Layout (layout_fault l)
 
--- the fault of a layout that is past its limits; None if its parts cannot be read
+-- the fault of a layout that is past its limits; None within them, or if the layout's parts cannot
+-- be read
 abbrev pub limit_fault_of : Option LayoutParts → Option ScenarioFault
 limit_fault_of None = None
 limit_fault_of (Some l) = limit_fault l
@@ -82,7 +84,8 @@ IsWarning lines (finding.Repeat place k) = Unit {0}
 IsWarning lines (finding.Warning number w) = (1 ≤ number) × (number ≤ lines)
 IsWarning lines f = ⊥
 
--- the cause of a finding about a JSON value
+-- what causes a finding about a JSON value. Either the value does not have the form of a scenario,
+-- or its layout is past its limits. Or the entry of `calls` with this number and text is not a line
 abbrev pub ValueCause : Data → Finding → Type 0
 ValueCause d (finding.Shape s) = form_of d ≡ None
 ValueCause d (finding.Layout out) = IsPastLimits d

@@ -17,23 +17,23 @@ abbrev pub data_of : Items → List Data
 data_of no_items = []
 data_of (item d ds) = d ∷ data_of ds
 
--- the items as a list, which is empty without any
+-- the items as a list; without any items, the empty list
 abbrev pub items_or_none : Option Items → List Data
 items_or_none None = []
 items_or_none (Some ds) = data_of ds
 
--- the items of the list at `calls`
+-- the items of the list at `calls`; none if there is no list
 unfoldable pub entries_in : Data → List Data
 entries_in d = items_or_none (option_and_then as_array (get (codes "calls") d))
 
 -- ---- the names of results
 
--- the text is a line after lines with these bindings of names
+-- the text is a line; `bound` has the names that earlier lines gave to their results
 abbrev pub is_line_after : Bound → (text : List ℕ) → Bool
 is_line_after bound text = is_some (line_says (plain_in bound text).text)
 
--- the bindings after the entry at index `place`, which may be a text; a line adds the name of its
--- result
+-- the bindings of names after the entry at index `place`, which may be a text. A line that names
+-- its result adds this name
 abbrev pub bound_text : (place : ℕ) → Bound → Option (List ℕ) → Bound
 bound_text place bound None = bound
 bound_text place bound (Some text) =
@@ -50,8 +50,8 @@ bound_through place bound (d ∷ ds) = bound_through (place + 1) (bound_past pla
 
 -- ---- entries that are not lines
 
--- the entry with this number, counted from 1, is this text, which is not a line after the lines before
--- it
+-- the entry with this number, counted from 1, is this text; the text is not a line after the lines
+-- before it
 pub record IsBadEntry (entries : List Data) (number : ℕ) (text : List ℕ) : Type 0 where
   pub at : ℕ
   pub entry : Data
@@ -65,13 +65,15 @@ abbrev pub IsBadCall : (entries : List Data) → Finding → Type 0
 IsBadCall entries (finding.BadCall number text names) = IsBadEntry entries number text
 IsBadCall entries f = ⊥
 
--- the finding reports this entry, at index `place`, which is not a line after lines with these bindings
+-- the finding reports this entry, at index `place`. The entry is not a line after lines with these
+-- bindings of names
 abbrev pub IsBadText : (place : ℕ) → Bound → Data → Finding → Type 0
 IsBadText place bound d (finding.BadCall number text names) =
     (number ≡ place + 1) × (as_str d ≡ Some text) × (is_line_after bound text ≡ false)
 IsBadText place bound d f = ⊥
 
--- the finding for a text was added, with the typo in the text's names, if that is the reason
+-- the finding for text `number` of `calls` was added; what it reports about the names in the text
+-- is not specified
 abbrev pub AddsBadCall : (number : ℕ) → (text : List ℕ) → (old new : List Finding) → Type 0
 AddsBadCall number text old new =
     (names : Option NameTypo) × (new ≡ old ++ finding.BadCall number text names ∷ [])
@@ -85,7 +87,8 @@ text_fault place bound (Some text) = if is_line_after bound text then None else 
 abbrev pub entry_fault : (place : ℕ) → Bound → Data → Option ScenarioFault
 entry_fault place bound d = text_fault place bound (as_str d)
 
--- the first fault of entries, of which the first has the index `place`, after lines with these bindings
+-- the first fault of entries, of which the first has the index `place`; `bound` has the names of
+-- the lines before them
 abbrev pub calls_fault : (place : ℕ) → Bound → List Data → Option ScenarioFault
 calls_fault place bound [] = None
 calls_fault place bound (d ∷ ds) =

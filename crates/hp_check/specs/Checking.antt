@@ -48,8 +48,8 @@ abbrev pub Begins : ScenarioFault → List Finding → Type 0
 Begins fault [] = ⊥
 Begins fault (f ∷ fs) = IsFindingOf fault f
 
--- either the text is a scenario and no finding is a fault, or the first finding reports the fault of
--- reading it
+-- either the text is a scenario and no finding is a fault, or the first finding reports the fault
+-- of reading it
 abbrev pub Agrees : Result NamedValue ScenarioFault → List Finding → Type 0
 Agrees (Ok scenario) found = count_by is_fault found ≡ 0
 Agrees (Err fault) found = Begins fault found × (1 ≤ count_by is_fault found)

@@ -1,4 +1,4 @@
--- White space of JSON (RFC 8259, section 2), and the lines of a text that have more than white space.
+-- White space of JSON (RFC 8259, section 2), and the lines of a text with more than white space.
 use Rattle.std.specs.Prelude.{◌≡◌, ℕ, ◌+◌, ◌==◌, ◌||◌, Bool, true, false, List, count_by, slice_get, take, Some, if◌then◌else◌}
 use Rattle.std.specs.List.{All}
 
@@ -10,7 +10,7 @@ is_space b = b == 32 || (b == 9 || (b == 10 || b == 13))
 abbrev pub is_newline : ℕ → Bool
 is_newline b = b == 10
 
--- the line after a byte; lines are counted from 1
+-- the line of the next byte, given the line of this byte; lines are counted from 1
 abbrev pub line_after : (line byte : ℕ) → ℕ
 line_after line byte = if is_newline byte then line + 1 else line
 
@@ -26,8 +26,8 @@ pub record IsSignLine (input : List ℕ) (line : ℕ) : Type 0 where
 abbrev pub AreSignLines : (input lines : List ℕ) → Type 0
 AreSignLines input lines = All (IsSignLine input) lines
 
--- all noted lines still have a byte other than white space, if each line noted before has one, and `line`
--- has one when it is noted
+-- if each line in `old` has a byte other than white space, and so has `line` in case `is_noted` is
+-- true, then each line in `new` has one
 abbrev pub KeepSignLines : (is_noted : Bool) → (line : ℕ) → (old new : List ℕ) → Type 0
 KeepSignLines is_noted line old new =
     (input : List ℕ) → AreSignLines input old → (is_noted ≡ true → IsSignLine input line)

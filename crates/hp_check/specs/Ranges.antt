@@ -8,7 +8,7 @@ use Rattle.hp_scenario.specs.Form.{boots_at, parts_with}
 use Rattle.hp_check.specs.declared.finding.OutOfRange.{OutOfRange}
 use Rattle.hp_check.specs.declared.finding.OutOfRange.TheVariants.{Frames}
 
--- the parts of the layout in a scenario's value
+-- the parts of the layout in a scenario's value; None if they cannot be read
 unfoldable pub parts_in : Data → Option LayoutParts
 parts_in d =
     option_and_then

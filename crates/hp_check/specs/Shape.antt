@@ -17,7 +17,7 @@ is_there d k = is_some (get (key_name k) d)
 abbrev pub has_its_keys : ScenarioObject → Data → Members → Bool
 has_its_keys place d ms = (members_len ms == length (keys_of place)) && list_all (is_there d) (keys_of place)
 
--- the test holds of a value. A missing value passes, because it is another fault
+-- the test holds of a value. Without a value it passes, because a missing key is a fault of its own
 abbrev pub if_there : (Data → Bool) → Option Data → Bool
 if_there f None = true
 if_there f (Some d) = f d
@@ -37,6 +37,6 @@ are_boots d = is_some (option_and_then (each_in boot_at) (as_array d))
 abbrev pub are_texts : Data → Bool
 are_texts d = is_some (option_and_then (each_in as_str) (as_array d))
 
--- the value at a key is either such an integer or missing
+-- the value at a key is missing, or is an unsigned integer that fits in 64 bits
 abbrev pub is_number_at : Data → Key → Bool
 is_number_at d k = if_there is_number (get (key_name k) d)

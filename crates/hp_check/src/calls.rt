@@ -13,7 +13,7 @@ use hp_units::Text;
 use serde_json::Value;
 use std::alloc::{AllocError, Global};
 
-/// Adds the texts of a scenario's `calls` that are not lines.
+/// Adds a finding for each text of a scenario's `calls` that is not a line.
 pub(crate) fn push_calls(
     found: &mut Vec<Finding>,
     alloc: Global,
@@ -44,8 +44,9 @@ fn entries_of(value: &Value) -> &[Value]
     }
 }
 
-/// Adds a finding if the entry at `place` is a text and not a line. `bound` has the names of
-/// results of the lines before it. A line adds the name of its own result to `bound`.
+/// Adds a finding if the entry at index `place` is a text and not a line. `bound` has the names of
+/// results of the lines before it. If the entry is a line that names its result, adds that name to
+/// `bound`.
 fn push_entry(
     found: &mut Vec<Finding>,
     bound: &mut Bindings,
@@ -68,8 +69,8 @@ fn push_entry(
     push_bad_call(found, bound, alloc, place as u64 + 1, text)
 }
 
-/// Binds the name of the result of the line at a place, if it has one. The result's number is not
-/// known.
+/// Binds the name that the line at index `place` gives to its result, if it gives one. The result's
+/// number is not known; it is set to 0.
 fn bind(bound: &mut Bindings, naming: Option<Naming>, place: usize) -> Result<(), AllocError>
     ensures { OnOk result (bound.new ≡ bound_after bound.old naming place 0) }
 {
@@ -79,7 +80,8 @@ fn bind(bound: &mut Bindings, naming: Option<Naming>, place: usize) -> Result<()
     }
 }
 
-/// Adds the finding for a text that is not a line after lines with these names.
+/// Adds the finding for text `number` of `calls`, which is not a line. `bound` has the names of
+/// results of the lines before it.
 fn push_bad_call(
     found: &mut Vec<Finding>,
     bound: &Bindings,

@@ -22,11 +22,13 @@ use std::alloc::{AllocError, Global};
 
 /// Finds all that is wrong with a scenario: its faults, or the warnings of a text without faults.
 ///
-/// Faults come in the order of `NamedScenario::read`, which stops at the first. They concern the
-/// keys and the kinds of values, the layout's ranges if all its parts can be read, and each text of
-/// `calls` that is not a line. Warnings concern keys that the text has more than once, and then
-/// lines; a line has at most one. The first `setup` lines run in order, before the scripts of the
-/// processors.
+/// Faults come in the order in which `NamedScenario::read` checks for them, which stops at the
+/// first. A text that is not JSON has one fault. Other faults concern the keys and the kinds of
+/// values, the layout's ranges if all its parts can be read, and each text of `calls` that is not a
+/// line.
+///
+/// Warnings concern keys that the text has more than once, and then lines; a line has at most one.
+/// The first `setup` lines run in order, before the scripts of the processors.
 pub fn check(alloc: Global, input: &[u8], setup: u64) -> Result<Vec<Finding>, AllocError>
     ensures agrees { IfOk result (λ found. Agrees (named_in input.now) found.items) }
     ensures causes { IfOk result (λ found. HaveCauses input.now found.items) }
@@ -53,7 +55,8 @@ fn unless_memory(
     }
 }
 
-/// Returns the warnings of a scenario and of its text.
+/// Returns the warnings about a scenario: first about repeated keys of its text, then about its
+/// lines.
 #[tactic(auto, using(crate::proofs::Agreement::repeats_are_warnings))]
 fn warnings_in(
     alloc: Global,
@@ -95,7 +98,8 @@ fn value_faults(alloc: Global, value: &Value) -> Result<Vec<Finding>, AllocError
     Ok(found)
 }
 
-/// Returns the fault of a text that is not JSON.
+/// Returns the fault of a text that is not JSON, given the error of the JSON reader. Fails if that
+/// error is out of memory.
 fn no_value(alloc: Global, input: &[u8], error: &Error) -> Result<Vec<Finding>, AllocError>
     ensures { IfOk result (λ found.
         Adds IsNotJson (Some ScenarioFault.NotJson) [] found.items × (¬ IsMemory error.now)) }

@@ -7,9 +7,9 @@ use crate::typos::write_typo;
 use hp_units::number32;
 use std::alloc::AllocError;
 
-/// Writes why a text is not a line, and what was expected. The reason is a space at one of its
-/// ends, or the wrong name or word, if that can be found. `names` is what `name_typo` returned for
-/// the text.
+/// Writes why a text is not a line. If it begins or ends with a space, writes that alone. Otherwise
+/// writes the wrong name or word, if it can be found, and what was expected. `names` is what
+/// `name_typo` returned for the text.
 pub fn write_expected(
     out: &mut String,
     text: &str,
@@ -41,8 +41,9 @@ fn write_wrong_word(
     }
 }
 
-/// Returns what to report of a text that is not a line: its first word is not a processor's number,
-/// its verb is missing or unknown, or the form that its verb requires.
+/// Returns what to report of a text that is not a line. It is that the first word is no processor's
+/// number, or that the verb is missing or unknown, or else the form that the verb requires. For
+/// some unknown verbs, it has a guess at the line.
 fn wanted(text: &str) -> &'static str {
     let mut words = text.split(' ');
     let cpu = words.next().and_then(|word| number32(word));
@@ -57,7 +58,7 @@ fn wanted(text: &str) -> &'static str {
         .unwrap_or("its second word is no verb")
 }
 
-/// Returns the text beside a word in a table.
+/// Returns the text beside a word in a table, if the table has the word.
 fn text_beside(word: &str, table: &'static [(&'static str, &'static str)]) -> Option<&'static str> {
     for row in table {
         if word == row.0 {

@@ -11,8 +11,8 @@ use hp_units::{Serial, Text};
 /// from 1.
 #[derive(Drop)]
 pub enum Finding {
-    /// The text is not JSON. The reader stopped at this line, counted from 1, and column, which may
-    /// be 0.
+    /// The text is not JSON. The reader stopped at `line`, counted from 1, and at `column`, which
+    /// may be 0.
     NotJson {
         hint: Hint,
         line: u64,
@@ -58,7 +58,8 @@ pub enum Hint {
     NoText,
     /// It begins with the byte order mark of UTF-8.
     ByteOrderMark,
-    /// The reader stopped at a bracket or a comma that comes right after a comma.
+    /// The reader stopped at a comma or a closing bracket. Before it is a comma, with at most white
+    /// space in between.
     Comma,
     /// The reader stopped at this character: a control character, or one beyond ASCII.
     Unexpected(char),
@@ -96,7 +97,8 @@ pub enum Key {
     Cpus,
     /// `batch`: how many frames a processor's list takes or gives back at once.
     Batch,
-    /// `high`: how many frames a processor's list holds before it spills.
+    /// `high`: the most frames that a processor's list keeps; a longer list gives `batch` frames
+    /// back.
     High,
     /// `owners`: the number of owners.
     Owners,
@@ -140,7 +142,7 @@ pub enum Shape {
     NotObject(ScenarioObject),
     /// An object with the wrong number of keys.
     KeyCount { place: ScenarioObject, count: u64 },
-    /// A key that the object may not have.
+    /// A key that does not belong in the object.
     UnknownKey { place: ScenarioObject, key: Text },
     /// A key that the object lacks.
     MissingKey { place: ScenarioObject, key: Key },
@@ -183,7 +185,7 @@ pub enum OutOfRange {
     Boot { words: u64, blocks: u64 },
 }
 
-/// What a layout counts.
+/// A kind of thing that a layout numbers from 0.
 #[derive(Clone, Copy)]
 pub enum Subject {
     /// Processors.
@@ -205,7 +207,8 @@ pub enum Subject {
 /// Why a line probably does not do what it is meant to do.
 #[derive(Clone, Copy)]
 pub enum Warning {
-    /// A number past the layout, whose numbers are below `count`: the call is refused.
+    /// `number` is past the layout, in which numbers of this kind are below `count`. The call is
+    /// refused.
     Past {
         subject: Subject,
         number: u64,
@@ -226,7 +229,7 @@ pub enum Warning {
     },
     /// An `echo` or a `cat` with this character, which no word of a control file contains.
     Unexpected(char),
-    /// An `echo` that its control file does not take.
+    /// An `echo` that fails with this fault in every state, because of its path or its word.
     Echo(ControlFault),
     /// A `cat` that has this fault in every state: there is no such control file, it can only be
     /// written, or its memory block is past the layout.

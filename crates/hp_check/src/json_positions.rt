@@ -1,8 +1,8 @@
-//! Where things are in a scenario's text: the lines in which the entries of `calls` begin, whether it
-//! has comments, and how deep brackets nest.
+//! Where things are in a scenario's text: the lines in which the entries of `calls` begin, whether
+//! it has comments, and how deep brackets nest.
 //!
-//! One walk goes over the brackets, commas, colons, words and strings of the JSON. It decodes no
-//! number and no escape, and accepts any bytes.
+//! The functions read the brackets, commas, colons, words and strings of the JSON. They decode no
+//! number and no escape, and accept any bytes.
 ghost use Rattle.std.specs.Prelude.{◌≡◌, ℕ, ◌≤◌, ◌+◌, ◌^◌, ◌<◌, List, [], true, false, IfOk, OnOk, is_some};
 ghost use Rattle.hp_check.specs.JsonPositions.{AreSignLines, KeepSignLines, is_space as is_white, line_after as line_then};
 
@@ -35,7 +35,8 @@ impl Walk {
         match lexeme {
             Lexeme::Text { is_calls } => {
                 self.note(line)?;
-                // At depth 1 it is a key, or the value of one that is not `calls`.
+                // At depth 1, a string is a key or the value at a key. After a value, the next key
+                // comes before any list.
                 if self.depth == 1 {
                     self.is_key_calls = is_calls;
                 }
@@ -127,7 +128,7 @@ pub fn call_lines(alloc: Global, input: &[u8]) -> Result<Vec<u64>, AllocError>
     Ok(walk.lines)
 }
 
-/// Returns the number of the line after this byte.
+/// Returns the number of the line that the next byte is in; `line` is the line of this byte.
 fn line_after(line: u64, byte: u8) -> u64
     requires { line + 1 < 2 ^ 64 }
     ensures { result ≡ line_then line byte }
@@ -151,7 +152,7 @@ enum Mode {
 /// What begins at a byte of a JSON text.
 #[derive(Clone, Copy, PartialEq, Eq, Drop)]
 enum Lexeme {
-    /// A string, which may be `calls` written without escapes.
+    /// A string. `is_calls` is whether it is `calls`, written without escapes.
     Text { is_calls: bool },
     /// A number or another word.
     Word,
@@ -209,7 +210,8 @@ fn mode_after(mode: Mode, byte: u8) -> Mode {
     }
 }
 
-/// Returns what begins at the first byte of the rest of a text, if something does.
+/// Returns what begins at a byte of a text, if something does. `rest` is the text from that byte
+/// on.
 fn lexeme_at(mode: Mode, byte: u8, rest: &[u8]) -> Option<Lexeme>
     ensures { is_some result ≡ true → is_white byte ≡ false }
 {
@@ -271,7 +273,7 @@ pub fn nests_deeper(input: &[u8], limit: u64) -> bool {
 }
 
 /// Returns the text before the byte at a line and a column, both counted from 1, and the text from
-/// that byte on.
+/// that byte on. Returns `None` if there is no such byte.
 pub fn halves_at(input: &[u8], line: u64, column: u64) -> Option<(&[u8], &[u8])> {
     let mut here = 1u64;
     let mut passed = 0u64;

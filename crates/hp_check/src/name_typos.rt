@@ -25,12 +25,12 @@ pub enum Meant {
     Nothing,
     /// This name of the same processor, which differs in a letter.
     Near(Text),
-    /// The same name of the processor with this number.
+    /// The name itself, but it is a name of the processor with this number.
     Other(Text),
 }
 
-/// Returns what is wrong with the names for results in a text that is not a line, after lines with
-/// these names. Returns `None` if the names are not the reason.
+/// Returns what is wrong with the names for results in a text that is not a line. `bound` has the
+/// names of results of the lines before it. Returns `None` if the names are not the reason.
 pub fn name_typo(
     alloc: Global,
     text: &str,
@@ -50,7 +50,7 @@ pub fn name_typo(
 }
 
 /// Returns the name that was probably meant by the unknown one in a text: a similar name of the
-/// same processor, or else the same name of another one.
+/// same processor, or else the same name of another processor.
 fn meant_in(alloc: Global, text: &str, bound: &Bindings) -> Result<Meant, AllocError> {
     let Some(name) = reference_in(text).strip_prefix('$') else {
         return Ok(Meant::Nothing);
@@ -74,8 +74,8 @@ fn meant_in(alloc: Global, text: &str, bound: &Bindings) -> Result<Meant, AllocE
     }
 }
 
-/// Returns whether two names differ in at most one letter: it is another one, or one of them lacks
-/// it.
+/// Returns whether two names differ in at most one letter, which is replaced, or is missing in one
+/// of the two.
 fn is_similar(alloc: Global, a: &str, b: &str) -> Result<bool, AllocError> {
     let a = a.as_bytes();
     let b = b.as_bytes();
@@ -117,7 +117,8 @@ fn write_meant(out: &mut String, meant: &Meant) -> Result<(), AllocError>
 fn word_in(text: &str, fault: NameFault) -> &str {
     match fault {
         NameFault::UnknownName | NameFault::WrongKind => reference_in(text),
-        // If a reference is not allowed where it is, the last one is not.
+        // A reference may only come right after some verbs. If one comes elsewhere, so does the
+        // last one.
         NameFault::ReferenceNotHere => text
             .rsplit(' ')
             .find(|word| word.starts_with('$'))

@@ -37,7 +37,8 @@ pub(crate) fn push_ranges(
     }
 }
 
-/// Adds each part that is out of its range, in the order of a layout's faults.
+/// Adds a finding for each part that is out of its range, in the order in which the parts are
+/// checked when a scenario is read.
 fn push_parts(found: &mut Vec<Finding>, parts: &Parts<'_>) -> Result<(), AllocError>
     ensures { OnOk result
         (Adds IsLayout (limit_fault (parts_seen parts.now)) found.old.items found.new.items) }
@@ -76,7 +77,7 @@ fn push_parts(found: &mut Vec<Finding>, parts: &Parts<'_>) -> Result<(), AllocEr
     push_each(found, &outs)
 }
 
-/// Adds each part in the list.
+/// Adds a finding for each entry of a list that has a part.
 fn push_each(found: &mut Vec<Finding>, outs: &[Option<OutOfRange>]) -> Result<(), AllocError>
     ensures { OnOk result
         (Adds IsLayout (first_at out_fault 1 outs.now) found.old.items found.new.items) }

@@ -8,7 +8,7 @@ use crate::shape::keys_of;
 use json::{Error, Scratch, Value};
 use std::alloc::{AllocError, Global};
 
-/// Adds the keys of a scenario that its text has more than once; the last one counts.
+/// Adds a finding for each key of a scenario that its text has more than once; the last one counts.
 ///
 /// Keys of the layout are added only if no key of the scenario itself comes twice.
 pub(crate) fn push_repeats(
@@ -27,7 +27,8 @@ pub(crate) fn push_repeats(
     }
 }
 
-/// Adds the keys that a scenario's value or its layout has more than once.
+/// Adds the keys that a scenario's value has more than once. If there are none, adds those of its
+/// layout.
 fn push_repeats_in(found: &mut Vec<Finding>, value: &Value<'_>) -> Result<(), AllocError>
     requires { All IsRepeat found.old.items }
     ensures { OnOk result (All IsRepeat found.new.items) }
@@ -43,7 +44,7 @@ fn push_repeats_in(found: &mut Vec<Finding>, value: &Value<'_>) -> Result<(), Al
     }
 }
 
-/// Adds the keys that an object has more than once.
+/// Adds those of an object's required keys that it has more than once.
 fn push_repeats_of(
     found: &mut Vec<Finding>,
     place: ScenarioObject,

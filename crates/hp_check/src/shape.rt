@@ -113,7 +113,7 @@ fn is_there(value: &Value, key: Key) -> bool
     value.get(key.name()).is_some()
 }
 
-/// Adds the keys that the object may not have.
+/// Adds a finding for each key of the object that does not belong in it.
 fn push_unknown(
     found: &mut Vec<Finding>,
     alloc: Global,
@@ -205,7 +205,8 @@ fn push_numbers(found: &mut Vec<Finding>, layout: &Value) -> Result<(), AllocErr
     Ok(())
 }
 
-/// Returns whether a value is a number or is missing. A missing value is another fault.
+/// Returns whether a value is an integer from 0 to 2^64-1, or is missing. A missing value is
+/// reported elsewhere, as a missing key.
 fn may_be_number(value: Option<&Value>) -> bool
     ensures { result ≡ means.if_there means.is_number (option_map (λ v. view v.now) value.entry) }
 {

@@ -1,4 +1,4 @@
-//! What the lines before a line did to the serials and to the history.
+//! What earlier lines did to the serials and to the history.
 ghost use Rattle.std.specs.Prelude.{◌≡◌, nat_le};
 
 use hp_scenario::{Asked, Line, Work};
@@ -16,8 +16,8 @@ pub(crate) struct Tally {
     any_later: bool,
     /// Whether the lines that are added are in scripts.
     pub(crate) in_scripts: bool,
-    /// Whether the next line works on the result of an earlier line, by its name. The number in
-    /// such a line is 0.
+    /// Whether the next line works on the result of an earlier line, which it gives by name. The
+    /// number in such a line is 0.
     pub(crate) by_name: bool,
     used: u64,
 }
@@ -34,7 +34,7 @@ impl Tally {
         }
     }
 
-    /// Adds the records of a line's work, on a machine of this layout.
+    /// Adds the records of a line's work, on a machine of this layout. A seal empties the history.
     pub(crate) fn add(&mut self, layout: &Layout, work: &Work) -> Result<(), AllocError> {
         match work.asked() {
             Asked::Event(event) => self.add_record(layout.history(), mark_of(event).is_opening()),
@@ -72,7 +72,7 @@ impl Tally {
         }
     }
 
-    /// Ends the setup: `lines`, which come after it, are in scripts.
+    /// Ends the setup. `lines` are all lines after it; they are in scripts.
     pub(crate) fn end_setup(&mut self, lines: &[Line]) {
         self.any_later |= lines.iter().any(|line| may_open(&line.work));
         self.in_scripts = true;
@@ -85,9 +85,9 @@ impl Tally {
         history <= self.used
     }
 
-    /// Returns whether the record with this serial may begin an operation. Serial 0 stands for the
-    /// result of an earlier line, by its name, and in scripts for the operation that the processor
-    /// began last.
+    /// Returns whether the record with this serial may begin an operation. Serial 0 means the
+    /// result of an earlier line if the line gives it by name, and in scripts the operation that
+    /// the processor began last.
     pub(crate) fn may_begin(&self, op: Serial) -> bool {
         if op.0 == 0 {
             return self.in_scripts || self.by_name;

@@ -18,7 +18,7 @@ enum WordKind {
     Wide,
     /// The name of an owner.
     Name,
-    /// A word of the language.
+    /// A fixed word, such as a verb or `off`.
     Word,
 }
 
@@ -73,7 +73,8 @@ fn why_not(kind: WordKind, word: &str) -> Option<&'static str> {
     }
 }
 
-/// Returns what is wrong with digits that are not a number: a leading zero, or else `too_many`.
+/// Returns what is wrong with a word of digits that is not a number: a leading zero, or else
+/// `too_many`. Returns `None` for any other word.
 fn number_typo(is_number: bool, word: &str, too_many: &'static str) -> Option<&'static str> {
     if is_number || !word.as_bytes().iter().all(|byte| byte.is_ascii_digit()) {
         return None;
@@ -104,7 +105,7 @@ pub(crate) fn spelling_typo(word: &str) -> Option<&'static str> {
     }
 }
 
-/// Returns what is wrong with a word of the language, if it has capitals.
+/// Returns what is wrong with a word that must be in lower case, if it has capitals.
 fn capitals_typo(word: &str) -> Option<&'static str> {
     if word.as_bytes().iter().any(|byte| byte.is_ascii_uppercase()) {
         Some(" has capital letters; ")

@@ -11,8 +11,9 @@ use hp_scenario::{Asked, Line, Work};
 use hp_units::{Cpu, Event, Layout, Owner, Page, Plan, Serial};
 use std::alloc::{AllocError, Global};
 
-/// Adds the warnings of lines on a layout. The first `setup` lines are the setup, the others are in
-/// the scripts of their processors. A line with a source works on the result of an earlier line.
+/// Adds the warnings about lines on a layout. The first `setup` lines are the setup, the others are
+/// in the scripts of their processors. `sources` has an index for each line that works on the
+/// result of an earlier line by its name.
 pub(crate) fn push_warnings(
     found: &mut Vec<Finding>,
     alloc: Global,
@@ -61,7 +62,7 @@ fn odd_warning(work: &Work) -> Option<Warning> {
     Some(Warning::Unexpected(odd?))
 }
 
-/// Returns a warning if a line in a script may not be there, with this many processors.
+/// Returns a warning if a line is in a script and cannot be part of one on this many processors.
 fn unfit_warning(cpus: u32, in_scripts: bool, line: &Line) -> Option<Warning> {
     if !in_scripts {
         return None;
@@ -105,9 +106,9 @@ fn cat_warning(layout: &Layout, path: &str) -> Option<Warning> {
     }
 }
 
-/// Returns a warning if the history has no room for all calls of a plan: the begin, a round of
-/// drains, all its turns, and a commit. The plan is that of a `plan` line, or one that an `echo`
-/// asks for.
+/// Returns a warning if the history has no room for all calls of a plan: the begin, a drain of each
+/// processor's lists, all its turns, and a commit. The plan is that of a `plan` line, or one that
+/// an `echo` asks for.
 fn turns_warning(layout: &Layout, work: &Work) -> Option<Warning> {
     let Asked::Plan { plan: _, turns } = work.asked() else {
         return None;
@@ -120,7 +121,8 @@ fn turns_warning(layout: &Layout, work: &Work) -> Option<Warning> {
     }
 }
 
-/// Returns the warning for a line that makes a call of this processor, whichever call it is.
+/// Returns a warning about any call of this processor: the history is full, or there is no such
+/// processor.
 fn caller_warning(layout: &Layout, tally: &Tally, cpu: Cpu) -> Option<Warning> {
     let history = layout.history();
     if tally.is_full(history) {
@@ -152,7 +154,8 @@ fn plan_past(layout: &Layout, plan: &Plan) -> Option<Warning> {
     past(Subject::Block, item.block.0, blocks)
 }
 
-/// Returns a warning if the memory block that begins at an address is past the layout.
+/// Returns a warning if a memory block that begins at this address is past the layout. Returns
+/// `None` if no memory block can begin there.
 fn address_past(layout: &Layout, address: u64) -> Option<Warning> {
     let bytes = layout.block_bytes();
     if address % bytes != 0 {
@@ -167,7 +170,7 @@ fn address_past(layout: &Layout, address: u64) -> Option<Warning> {
     })
 }
 
-/// Returns a warning if no earlier line begins the operation.
+/// Returns a warning if no earlier line can have begun the operation.
 fn no_begin(tally: &Tally, op: Serial) -> Option<Warning> {
     if tally.may_begin(op) {
         None
@@ -176,8 +179,8 @@ fn no_begin(tally: &Tally, op: Serial) -> Option<Warning> {
     }
 }
 
-/// Returns a warning about the first thing that an event names and that does not exist, if there is
-/// one.
+/// Returns a warning about something that an event names and that does not exist, if there is any.
+/// For a `DrainFor`, the processor is checked before the operation.
 fn event_warning(layout: &Layout, tally: &Tally, event: &Event) -> Option<Warning> {
     match event {
         Event::KernelAlloc { order } => past(Subject::Order, order.0, layout.order() + 1),

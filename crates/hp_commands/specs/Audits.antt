@@ -1,4 +1,5 @@
--- Volumes and a machine's history that lead to its state.
+-- Volumes (each has the records that one seal handed out) and a machine's history that lead to its
+-- state.
 use Rattle.std.specs.Prelude.{ℕ, ◌≡◌, ◌⊎◌, List}
 use Rattle.hp_units.specs.History.{IsLegal, value_of}
 use Rattle.hp_machine.specs.Machine.{MachineValue}

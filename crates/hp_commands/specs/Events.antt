@@ -38,7 +38,7 @@ abbrev pub Writes : MachineValue → (due : List ℕ) → (next : MachineValue) 
 Writes m due next text new =
     ((text ≡ due) × (new ≡ next)) ⊎ ((is_full m ≡ false) × (text ≡ unrecorded_line OutOfMemory) × (new ≡ m))
 
--- an event was called
+-- the machine was called with an event, and the text has the reply or the fault
 abbrev pub WritesEvent : MachineValue → (cpu : ℕ) → Event → (text : List ℕ) → (new : MachineValue) → Type 0
 WritesEvent m cpu event text new =
     Writes m (event_text m cpu event) (machine_after_event m cpu event) text new

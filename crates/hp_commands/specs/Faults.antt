@@ -65,7 +65,7 @@ chain_fault_from (chain.WrongBase at) = BrokenChain at
 chain_fault_from (chain.Replay at fault) = replay_fault_from fault
 chain_fault_from chain.OutOfMemory = OutOfMemory
 
--- the text that was read is not a scenario, with this fault
+-- the bytes that were read, if they are known, are not a scenario, with this fault
 abbrev pub IsNone : Option (List ℕ) → ScenarioFault → Type 0
 IsNone known fault = IfSome known (λ input. scenario_in input ≡ Err fault)
 
@@ -86,8 +86,8 @@ pub record IsUnclosed (l : LayoutParts) (scripts : List (List Line)) (why : Clos
   pub workers : AreGathered l (first_seats l.cpus) scripts seats volumes ends None
   pub cause : HasCause l seats volumes why
 
--- why scripts are not run to the end: a worker, not the first, was not started, or the machine was
--- not closed. A seat is never missing
+-- why scripts are not run to the end: memory ran out; a worker other than the first was not
+-- started; or the machine was not closed. SeatMissing never occurs
 abbrev pub IsWorkFault : LayoutParts → List (List Line) → ProgramFault → Type 0
 IsWorkFault l scripts OutOfMemory = Unit {0}
 IsWorkFault l scripts (NotStarted cpu) =
@@ -129,8 +129,8 @@ IsAudit Run = ⊥
 IsAudit Audit = Unit {0}
 
 -- when each fault occurs; `read` and `written` state that a call of the reader or the writer
--- failed. A missing seat and a wrong record never occur; a broken chain occurs only if some line
--- seals
+-- failed. SeatMissing, WrongReply and WrongSerial never occur. AuditDiffers and BrokenChain occur
+-- only if some line seals
 abbrev pub IsFaultOf : Command → (known : Option (List ℕ)) (read written : Type 0) → ProgramFault → Type 0
 IsFaultOf command known read written ReadFailed = read
 IsFaultOf command known read written TooLong = IfSome known (λ input. limit < length input)

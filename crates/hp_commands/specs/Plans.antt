@@ -22,8 +22,8 @@ pub record PlanRun : Type 0 where
   pub machine : MachineValue
   pub fault : Option CallFault
 
--- a run with an event to come goes on if the history has room, and is left if not; without one it
--- is at its end
+-- a run with an event to come goes on if the history has room, and otherwise ends with the fault
+-- HistoryFull; a run without one has ended
 unfoldable pub going_on : List Receipt → MachineValue → (more : Event → PlanRun) → (full : Bool)
     → Option Event → PlanRun
 going_on receipts m more full None = record { receipts = receipts; machine = m; fault = None }
@@ -41,7 +41,7 @@ run_on (suc room) turns plan cpu receipts m =
     (receipts ++ receipt_of (next_record m cpu event) ∷ []) (with_record m (next_record m cpu event)))
     (is_full m) (next_event m.layout.cpus turns plan receipts)
 
--- a whole run: it makes no more records than are left to the history's limit
+-- a whole run: it makes no more records than the history has room for
 abbrev pub plan_run : MachineValue → (cpu turns : ℕ) → List Item → PlanRun
 plan_run m cpu turns plan = run_on (m.layout.history - length m.history) turns plan cpu [] m
 

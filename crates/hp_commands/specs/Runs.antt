@@ -57,8 +57,9 @@ scripts_in input = scenario_in input >>= scripts_of
 abbrev pub SealsSome : List ℕ → Type 0
 SealsSome input = (scripts : List (List Line)) × (scripts_in input ≡ Ok scripts) × (seals_in_all scripts ≢ 0)
 
--- each processor's seat ran its whole script, with these ends and these volumes; and all records,
--- of the volumes and then of the machine, are exactly those of the seats' receipts
+-- each worker ran the whole script of its processor, with these ends, and the seals in the scripts
+-- handed out these volumes. All records, those of the volumes and then the machine's own, are
+-- exactly those of the workers' receipts
 pub record IsWorkedOff (l : LayoutParts) (scripts : List (List Line)) (ends : List (List LineEnd))
     (volumes : List Volume) (m : MachineValue) (count : ℕ) : Type 0 where
   pub seats : List SeatValue
@@ -70,8 +71,8 @@ pub record IsWorkedOff (l : LayoutParts) (scripts : List (List Line)) (ends : Li
   pub closed : IsClosed l seats volumes m count
   pub boots : m.before ≡ 0 → m.base ≡ boot_memory m.layout
 
--- the scenario's scripts were run to the end; if a line ended because the history was full, all
--- records, `count` in number, reach the layout's limit
+-- the scenario's scripts were run to the end. If a line ended because the history was full, then
+-- `count`, the number of all records, reaches the limit of a history, or no serial is left
 pub record IsRunOf (input : List ℕ) (ends : List (List LineEnd)) (volumes : List Volume) (m : MachineValue)
     (count : ℕ) : Type 0 where
   pub scenario : ScenarioValue
@@ -81,7 +82,7 @@ pub record IsRunOf (input : List ℕ) (ends : List (List LineEnd)) (volumes : Li
   pub worked : IsWorkedOff scenario.layout scripts ends volumes m count
   pub full : ReachWhereFull scenario.layout ends count
 
--- how the lines ended, by processor, and the number of records
+-- the text of a run: how the lines ended, by processor, and the number of records
 pub record IsRunTextOf (input text : List ℕ) : Type 0 where
   pub ends : List (List LineEnd)
   pub volumes : List Volume
@@ -90,8 +91,8 @@ pub record IsRunTextOf (input text : List ℕ) : Type 0 where
   pub run : IsRunOf input ends volumes machine count
   pub written : text ≡ processors_text ends ++ records_line count
 
--- the text of an audit: the number of records and `audit ok`, of a run whose volumes and history
--- lead from boot to the machine's state
+-- the text of an audit: the number of records and `audit ok`. The run's volumes and history lead
+-- from boot to the machine's state
 pub record IsAuditTextOf (input text : List ℕ) : Type 0 where
   pub ends : List (List LineEnd)
   pub volumes : List Volume

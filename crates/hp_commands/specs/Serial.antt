@@ -49,11 +49,11 @@ unfoldable pub machine_after_lines : MachineValue → List Line → MachineValue
 machine_after_lines m [] = m
 machine_after_lines m (line ∷ lines) = machine_after_lines (machine_after m line) lines
 
--- the state that a machine's history leads to
+-- the text of the state that a machine's history leads to
 abbrev pub end_text : (names : List (List ℕ)) → MachineValue → List ℕ
 end_text names m = state_text m.layout names (value_of m.layout m.base m.history)
 
--- the lines, then the state
+-- the text of a scenario: those of its lines, then that of the state after them
 unfoldable pub scenario_text : ScenarioValue → List ℕ
 scenario_text s =
     lines_text (booted s.layout) s.lines ++ end_text s.names (machine_after_lines (booted s.layout) s.lines)

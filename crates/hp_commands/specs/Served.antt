@@ -19,7 +19,7 @@ pub record IsTextOf (input text : List ℕ) : Type 0 where
   pub end : text ≡ lines ++ end_text scenario.names machine
   pub whole : IsWhole text → serial_text input ≡ Ok text
 
--- the text for the bytes that were read, and nothing else
+-- if the bytes that were read are known, the text of their scenario was written, and nothing else
 abbrev pub WritesTextOf : (known old new : Option (List ℕ)) → Type 0
 WritesTextOf known old new =
     IfSome known (λ input. (text : List ℕ) × Appends old new text × IsTextOf input text)
@@ -30,7 +30,8 @@ IsOutputOf Serial input text = IsTextOf input text
 IsOutputOf Run input text = IsRunTextOf input text
 IsOutputOf Audit input text = IsAuditTextOf input text
 
--- a command wrote its text for the bytes that were read, and nothing else
+-- if the bytes that were read are known, the text that the command makes of them was written, and
+-- nothing else
 abbrev pub Serves : Command → (known old new : Option (List ℕ)) → Type 0
 Serves command known old new =
     IfSome known (λ input. (text : List ℕ) × Appends old new text × IsOutputOf command input text)

@@ -30,7 +30,7 @@ pub fn audit<R: Threads + Wait + Sync>(
 {
     let worked = work_off(rt, alloc, input)?;
     let text = audited_text(alloc, &worked.closed);
-    // The program ends after this text, as after `run`.
+    // The program ends after this text: the many pieces of memory are not freed one by one.
     forget(worked);
     text
 }
@@ -49,7 +49,8 @@ fn audited_text(alloc: Global, closed: &Closed) -> Result<String, ProgramFault>
     Ok(out)
 }
 
-/// Replays volumes from boot, and compares the state that they lead to with a machine's base.
+/// Replays volumes from boot (each has the records that one seal handed out). Compares the state
+/// that they lead to with a machine's base, its state at the last seal or at boot.
 fn check_volumes(
     alloc: Global,
     volumes: &Vec<Volume>,
@@ -65,8 +66,8 @@ fn check_volumes(
     Ok(())
 }
 
-/// Replays a machine's history from its base, and compares the state that it leads to with the
-/// machine's.
+/// Replays a machine's records since its base, its state at the last seal or at boot, and compares
+/// the state that they lead to with the machine's.
 fn check_history(alloc: Global, machine: &Machine) -> Result<(), ProgramFault>
     ensures ok { OnOk result (LeadsToState machine.now) }
     ensures err { IfErr result (λ fault. (volumes : List Volume) → HasAuditFault volumes machine.now fault) }

@@ -30,28 +30,28 @@ pub enum ProgramFault {
     Layout(LayoutFault),
     /// A string of `calls` is not a line; lines are counted from 1.
     BadLine { line: u64 },
-    /// A line that no worker may run: it reads a control file, or its processor is not in the
-    /// layout; lines are counted from 1.
+    /// No worker (a thread of `hotplug run`) may run the line: it reads a control file, or its
+    /// processor is not in the layout. Lines are counted from 1.
     NotForRun { line: u64 },
     /// Out of memory.
     OutOfMemory,
     /// No thread could be started for the worker of this processor.
     NotStarted { cpu: Cpu },
-    /// There was not exactly one seat per processor at the end of a run.
+    /// There was not exactly one seat (access to the machine) per processor at the end of a run.
     SeatMissing,
     /// The lowest serial at which a processor's receipts and its records differ.
     Mismatch { serial: Serial },
-    /// The record with this serial has another reply than the plain machine gives.
+    /// The record with this serial has another reply than the replay gives.
     WrongReply { serial: Serial },
     /// The record at this place, counted from 0, does not have the next serial.
     WrongSerial { at: u64 },
-    /// The sealed volumes lead to another state than the machine's base, or its history to another
-    /// state than the machine's.
+    /// The records that the seals handed out do not lead to the machine's base (its state at the
+    /// last seal or at boot), or its later records do not lead to its state.
     AuditDiffers,
     /// The writer failed.
     WriteFailed,
-    /// The volume at place `at`, counted from 0, does not follow those before it; or, if `at` is
-    /// the number of volumes, they do not hold all sealed records.
+    /// The volume (what one seal handed out) at place `at`, counted from 0, does not follow those
+    /// before it. If `at` is the number of volumes, they do not hold all sealed records.
     BrokenChain { at: u64 },
 }
 

@@ -27,7 +27,7 @@ pub fn write_plan(
 }
 
 /// Runs a plan's driver, and returns how it ended. If memory runs out before its first call, the
-/// operation is left before it begins.
+/// run ends before the operation begins.
 fn run_to_end(
     alloc: Global,
     machine: &mut UnrecordedMachine,
@@ -43,7 +43,8 @@ fn run_to_end(
     }
 }
 
-/// Returns the end of a plan that runs out of memory before its first call.
+/// Returns the end of a plan that runs out of memory before its first call. The fault is
+/// `HistoryFull` if the history is full as well.
 fn left(machine: &UnrecordedMachine) -> OpEnd
     ensures { (cpu turns : ℕ) (plan : List Item) → IsPlanRun machine.now cpu turns plan result machine.now }
 {

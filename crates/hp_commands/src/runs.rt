@@ -125,7 +125,8 @@ fn run_scripts<L: Job + Send + Sync, R: Threads + Wait + Sync>(
     close_after(alloc, shared, end)
 }
 
-/// Closes a machine after its workers.
+/// Closes a machine after its workers ended. Fails with the fault that ended them, or with the
+/// reason why the machine cannot be closed.
 fn close_after<L: Job>(
     alloc: Global,
     shared: Shared<L>,

@@ -7,7 +7,8 @@ use hp_machine::UnrecordedMachine;
 use hp_text::write_sealed;
 use std::alloc::AllocError;
 
-/// Seals the machine, which keeps no records to hand out, and writes how many there were.
+/// Seals the machine, and writes how many records it made since the last seal. An
+/// `UnrecordedMachine` keeps no records, so none are handed out.
 pub fn write_seal(out: &mut String, machine: &mut UnrecordedMachine) -> Result<(), AllocError>
     ensures { OnOk result (GrowsBy (string_bytes out.old) (string_bytes out.new)
         (λ text. WritesSeal machine.old text machine.new)) }

@@ -27,9 +27,9 @@ use std::mem::forget;
 
 /// Runs the scenario in `input`, and returns its text: what each line writes, then the state.
 ///
-/// If the input has the usual form, each line is run as it is read; otherwise, and if there is a
-/// fault, all lines are read before the first one is run. In the first case the machine's memory is
-/// not freed before the program ends.
+/// Input in the usual form without a fault is run line by line as it is read, and the machine's
+/// memory is then not freed before the program ends. Any other input is read as a whole, and then
+/// run from its first line.
 pub fn serial(alloc: Global, input: Vec<u8>) -> Result<String, ProgramFault>
     ensures ok { IfOk result (λ out. IsTextOf input.items (string_bytes out)) }
     ensures err { IfErr result (IsFaultOf Serial (Some input.items) ⊥ ⊥) }
@@ -52,9 +52,9 @@ fn usual_text(alloc: Global, input: &[u8]) -> Result<Option<String>, AllocError>
     calls_text(alloc, &mut calls, input.len() / 16)
 }
 
-/// Runs the lines of `calls`, none of which was taken yet, as they are read, on a machine with room
-/// for `count` lines. Returns the output if there is no fault; `None` does not mean that there is
-/// one.
+/// Runs the lines of `calls` as they are read, on a machine with room for `count` lines. No line
+/// may have been taken before. Returns the output if there is no fault; after `None`, the bytes may
+/// still be a scenario.
 fn calls_text(
     alloc: Global,
     calls: &mut Calls<'_>,
@@ -86,13 +86,13 @@ fn write_end(
 {
     let end = machine.image(alloc)?;
     write_state(out, alloc, &end, calls.names())?;
-    // Not freed before the program ends, like the machine.
+    // The state is not freed before the program ends.
     forget(end);
     Ok(())
 }
 
-/// Runs lines as they are read, and writes the text of each. Returns whether the scenario ended
-/// after them, without a fault.
+/// Runs lines as they are read, and writes the text of each. Returns whether the scenario then
+/// ended without a fault; `false` may also mean that it goes on in another form.
 fn write_calls(
     out: &mut String,
     alloc: Global,

@@ -47,7 +47,7 @@ pub fn serve<R: Source, W: Sink, T: Threads + Wait + Sync>(
     // The writer got the command's text for the bytes that were read, and nothing else.
     ensures ok { OnOk result
         (Serves command (R.remaining reader.old) (W.contents writer.old) (W.contents writer.new)) }
-    // After any other fault, nothing was written.
+    // After any fault except `WriteFailed`, nothing was written.
     ensures silent { IfErr result
         (λ fault. fault ≢ ProgramFault.WriteFailed → Keeps (W.contents writer.old) (W.contents writer.new)) }
     // Each fault comes only from its cause.
@@ -90,7 +90,7 @@ pub fn serve_serial<R: Source, W: Sink>(
     // The writer got the text for the bytes that were read, and nothing else.
     ensures ok { OnOk result
         (WritesTextOf (R.remaining reader.old) (W.contents writer.old) (W.contents writer.new)) }
-    // After any other fault, nothing was written.
+    // After any fault except `WriteFailed`, nothing was written.
     ensures silent { IfErr result
         (λ fault. fault ≢ ProgramFault.WriteFailed → Keeps (W.contents writer.old) (W.contents writer.new)) }
     // Each fault comes only from its cause.

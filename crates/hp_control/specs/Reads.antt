@@ -1,5 +1,5 @@
--- The texts of the control files (Linux guide, Memory Hot(Un)Plug; the words of a going block are
--- this model's).
+-- The texts of the control files (Linux guide, Memory Hot(Un)Plug; what the files show of a block
+-- that is going offline is this model's choice).
 use Rattle.std.specs.Prelude.{ℕ, false, List, [], ◌∷◌, ◌++◌, codes, Option, Some, None, Result, Ok, Err, slice_get}
 use Rattle.std.specs.Fmt.{digits}
 use Rattle.std.specs.Option.{option_and_then, option_map}
@@ -33,7 +33,8 @@ block_word OnlineFile OfflineState _ = Some (codes "0")
 block_word ZonesFile _ current = Some (zones_word current)
 block_word RemovableFile _ _ = Some (codes "1")
 
--- what a file of the block with this number shows; each memory block of the layout has a row
+-- what a file of the block with this number shows; None if the layout has no such block or it is
+-- absent
 abbrev pub word_at : List Row → ℕ → BlockFile → Option (List ℕ)
 word_at rows block file = option_and_then (λ row. block_word file row.state row.zone) (slice_get rows block)
 

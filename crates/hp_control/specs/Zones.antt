@@ -18,7 +18,7 @@ zone_name MovableZone = codes "Movable"
 abbrev pub free_count : FreeAreas → Class → ℕ → ℕ
 free_count a class order = length (free_list a class order)
 
--- the free blocks of a zone and an order, isolated ones too
+-- how many free blocks of an order a zone has, isolated ones too
 abbrev pub zone_count : FreeAreas → Zone → ℕ → ℕ
 zone_count a NormalZone order = free_count a Nu order + free_count a Nm order + free_count a IsoN order
 zone_count a MovableZone order = free_count a Mm order + free_count a IsoM order
@@ -40,6 +40,6 @@ zone_head zone = codes "Node 0, zone " ++ aligned 8 (zone_name zone)
 unfoldable pub zone_line : LayoutParts → FreeAreas → Zone → List ℕ
 zone_line l a zone = zone_head zone ++ counts_below a zone (l.order + 1) ++ 10 ∷ []
 
--- the whole text
+-- the text of `buddyinfo`: the line of each zone
 unfoldable pub buddyinfo_text : LayoutParts → FreeAreas → List ℕ
 buddyinfo_text l a = zone_line l a NormalZone ++ zone_line l a MovableZone

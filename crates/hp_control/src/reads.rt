@@ -18,9 +18,9 @@ use std::alloc::{AllocError, Global};
 ///
 /// `block_size_bytes`: the bytes of a memory block in hexadecimal. `buddyinfo`: see [`buddyinfo`].
 /// `auto_online_blocks`: what a block becomes when it is added. `memoryN/state`: `online`,
-/// `offline` or `going-offline`. `memoryN/online`: `1` for an online and a going block, `0` for an
-/// offline one. `memoryN/valid_zones`: the zone of an online and a going block, `Normal Movable` of
-/// an offline one. `memoryN/removable`: `1`.
+/// `offline` or `going-offline`. `memoryN/online`: `0` for an offline block, otherwise `1`.
+/// `memoryN/valid_zones`: `Normal Movable` for an offline block, otherwise the block's zone.
+/// `memoryN/removable`: `1`.
 ///
 /// Errors: `NoFile` for another path, and for a block that is not in the layout or is absent;
 /// `WriteOnly` for `probe`; `OutOfMemory`, which may come in place of any other result.

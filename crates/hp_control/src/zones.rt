@@ -7,9 +7,9 @@ use hp_memory::Memory;
 use hp_units::{Class, Order, Zone};
 use std::alloc::{AllocError, Global};
 
-/// Returns the free blocks of each zone by order: a line for Normal and one for Movable. Isolated
-/// blocks count too; frames on processors' lists do not (Linux, /proc/buddyinfo, but without a
-/// space at the end of a line).
+/// Returns how many free blocks of each order each zone has: a line for Normal and one for Movable.
+/// Isolated blocks count too; frames on processors' lists do not (Linux, /proc/buddyinfo, but
+/// without a space at the end of a line).
 pub fn buddyinfo(alloc: Global, machine: &Machine) -> Result<Vec<u8>, AllocError>
     ensures { IfOk result
         (λ text. text.items ≡ means.buddyinfo_text machine.now.layout machine.now.state.free.areas) }

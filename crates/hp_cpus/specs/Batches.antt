@@ -5,7 +5,7 @@ use Rattle.hp_units.specs.LayoutParts.{LayoutParts}
 use Rattle.hp_units.specs.Memory.{FreeFrames, cached_list, with_cached_list, zone_of_pool}
 use Rattle.hp_units.specs.ProcessorLists.{Refill, take_frames, give_all}
 
--- the taken frames are at the back of a processor's list
+-- the free frames after a refill: the taken frames are at the back of a processor's list
 abbrev pub with_refill : FreeFrames → ℕ → Pool → Refill → FreeFrames
 with_refill fs cpu pool refill =
     with_cached_list (record fs { areas = refill.areas }) cpu pool (cached_list fs cpu pool ++ refill.frames)

@@ -18,10 +18,11 @@ pub record CpusValue : Type 0 where
 abbrev pub frames_of : FreeAreas → CpusValue → FreeFrames
 frames_of a c = record { areas = a; cached = c.cached }
 
--- a processor's list of a pool, and the lists with that one changed
+-- a processor's list of a pool
 abbrev pub list_of : CpusValue → ℕ → Pool → List ℕ
 list_of c cpu pool = slice_index_or c.cached (3 * cpu + pool_index pool) []
 
+-- all lists, with a processor's list of a pool replaced
 abbrev pub with_list_of : CpusValue → ℕ → Pool → List ℕ → CpusValue
 with_list_of c cpu pool frames = record c { cached = slice_set c.cached (3 * cpu + pool_index pool) frames }
 
@@ -41,9 +42,9 @@ one_at frame other = if frame == other then 1 else 0
 
 -- ---- what calls require and keep
 
--- the free areas and the processors' lists are of one layout, free blocks are apart, frames on
--- processors' lists are within the layout, and no frame is in two of these places. This holds of
--- every well placed state
+-- the free areas and the processors' lists are of one layout, and free blocks are apart. Frames on
+-- processors' lists are within the layout, and no frame is in two of these places. All this holds
+-- of every well placed state
 pub record AreTogether (c : CpusValue) (b : BuddyValue) : Type 0 where
   pub layout : b.layout ≡ c.layout
   pub lists : length c.cached ≡ 3 * c.layout.cpus
@@ -59,7 +60,7 @@ pub record MayBePut (c : CpusValue) (b : BuddyValue) (frame : ℕ) : Type 0 wher
 
 -- ---- how the lists are stored
 
--- the table is that of the layout
+-- the table has the sizes of the layout
 pub record IsCpusOf (l : LayoutParts) (links : LinkedLists) : Type 0 where
   pub layout : IsLayout l
   pub frame_count : links.frame_count ≡ frame_count l

@@ -139,11 +139,11 @@ impl Cpus {
         self.pop(cpu, pool, tape)
     }
 
-    /// Puts a frame of a zone at the front of the processor's list of its pool. If the list is then
-    /// longer than `high`, gives a batch back to the free areas, last frame first (Gorman, chapter
-    /// 6: per-cpu lists; which ends of the list is this model's choice).
+    /// Puts a frame of zone `zone` at the front of the processor's list of the frame's pool. If the
+    /// list is then longer than `high`, gives a batch back to the free areas, last frame first
+    /// (Gorman, chapter 6: per-cpu lists). Which ends of the list are used is this model's choice.
     ///
-    /// A frame of an isolated pageblock goes straight to the free areas.
+    /// A frame of an isolated pageblock goes straight to the free areas instead.
     pub fn put_one(
         &mut self,
         cpu: Cpu,

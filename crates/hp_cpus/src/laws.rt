@@ -8,15 +8,15 @@ ghost use Rattle.hp_units.specs.Placement.{IsWellPlaced};
 ghost use Rattle.hp_cpus.specs.Cpus.{AreTogether, MayBePut};
 
 /// In a well placed state the free areas and the processors' lists are of one layout, and no frame
-/// is in two of their places. Each call requires this of both.
+/// is in two of their places. Calls that move frames require this of both.
 pub fn well_placed_frames_are_together()
     ensures { (l : LayoutParts) (s : Memory) → IsLayout l → IsWellPlaced l s
         → AreTogether (record { layout = l; cached = s.free.cached })
         (record { layout = l; areas = s.free.areas }) }
 {}
 
-/// In a well placed state each single frame of the kernel and each page's frame can be put back on
-/// a processor's list.
+/// In a well placed state each kernel block of a single frame, and each page's frame, can be put
+/// back on a processor's list.
 pub fn frames_in_use_may_be_put()
     ensures kernel { (l : LayoutParts) (s : Memory) (frame : ℕ) → IsLayout l → IsWellPlaced l s
         → kernel_order s frame ≡ Some 0

@@ -63,7 +63,7 @@ abbrev pub filled : List ObservedLine → List ObservedLine
 filled [] = []
 filled (one ∷ later) = record one { to = min one.to (first_to (filled later)) } ∷ filled later
 
--- nothing was seen yet of this many processors
+-- the list has this many processors, and no answer of any of them
 abbrev pub AreUnseen : (processors : ℕ) → List (List ObservedLine) → Type 0
 AreUnseen processors seen = seen ≡ replicate processors []
 

@@ -105,6 +105,21 @@ record IsSplitAlike (more before : List Record) (r : Record) : Type 0 where
   pub same : map anonymous_record mid ≡ map anonymous_record before
   pub cpu : other.cpu ≡ r.cpu
 
+-- two such lists with one more record in front of each
+split_longer : (x y : Record) (more before : List Record) (r : Record)
+    → anonymous_record x ≡ anonymous_record y → IsSplitAlike more before r
+    → IsSplitAlike (x ∷ more) (y ∷ before) r
+split_longer x y more before r first split = record {
+  mid = x ∷ split.mid;
+  other = split.other;
+  later = split.later;
+  more_is = ap (λ (xs : List Record). x ∷ xs) split.more_is;
+  same =
+      ap (λ (q : Record). q ∷ map anonymous_record split.mid) first
+      ∙ ap (λ (qs : List Record). anonymous_record y ∷ qs) split.same;
+  cpu = split.cpu;
+}
+
 split_alike : (more before : List Record) (r : Record) (later : List Record)
     → map anonymous_record more ≡ map anonymous_record (before ++ r ∷ later) → IsSplitAlike more before r
 split_alike [] [] r later same = absurd cc
@@ -120,19 +135,7 @@ split_alike (x ∷ more) [] r later same =
       cpu = ap (λ (q : Record). q.cpu) first;
     }
 split_alike (x ∷ more) (y ∷ before) r later same =
-    let first : anonymous_record x ≡ anonymous_record y = cc in
-    let rest : map anonymous_record more ≡ map anonymous_record (before ++ r ∷ later) = cc in
-    let split = split_alike more before r later rest in
-    record {
-      mid = x ∷ split.mid;
-      other = split.other;
-      later = split.later;
-      more_is = ap (λ (xs : List Record). x ∷ xs) split.more_is;
-      same =
-          ap (λ (q : Record). q ∷ map anonymous_record split.mid) first
-          ∙ ap (λ (qs : List Record). anonymous_record y ∷ qs) split.same;
-      cpu = split.cpu;
-    }
+    split_longer x y more before r (cc) (split_alike more before r later (cc))
 
 timed_alike : (g : Setting) (seen : List (List ObservedLine)) (h k more others : List Record)
     → map anonymous_record more ≡ map anonymous_record others
@@ -180,8 +183,8 @@ as_long g h k rest same =
       same.alike.same.calls,
     )
 
--- the continuation that is explained from `h` leads from `k` to the same further records, and it is
--- explained there too
+-- the continuation that is explained from `h` leads from `k` to further records that are equal but
+-- for the numbers of operations. It is explained there too
 record IsExplainedOn (g : Setting) (seen : List (List ObservedLine)) (rest : List ℕ) (h k : List Record)
     (end : List Record) : Type 0 where
   pub on : ContinuesAs g (schedule_of k) rest h k end

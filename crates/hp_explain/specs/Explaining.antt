@@ -14,7 +14,7 @@ use Rattle.hp_explain.specs.declared.observed.ObservedLine.{ObservedLine}
 
 -- ---- the answers that were seen
 
--- no line was answered before an earlier line
+-- no line has a lower time `to`, by which it was answered, than an earlier line
 abbrev pub AreRising : List ObservedLine → Type 0
 AreRising lines =
     (i j : ℕ) (a b : ObservedLine) → slice_get lines i ≡ Some a → slice_get lines j ≡ Some b → i ≤ j
@@ -80,9 +80,8 @@ pub record Explains (g : Setting) (seen : List (List ObservedLine)) (schedule : 
 
 -- ---- results
 
--- either the first schedule that explains the observed answers, in the order of the processors,
--- with room in the history for its calls. Or a longest explained beginning, if no schedule explains
--- them
+-- either the first schedule that explains the observed answers; the history has room for its calls.
+-- Or a longest explained beginning, if no schedule explains them
 abbrev pub IsExplanation : Setting → List (List ObservedLine) → Explanation → Type 0
 IsExplanation g seen (Explained schedule) =
     Explains g seen schedule.items

@@ -15,20 +15,21 @@ use Rattle.hp_explain.specs.declared.standing.Next.TheVariants.{Answered, Finish
 use Rattle.hp_explain.specs.declared.standing.Standing.{Standing}
 use Rattle.hp_explain.specs.declared.standing.Unfinished.{Unfinished}
 
--- `u.line` is the first unfinished line of the processor `u.cpu`. One of this processor's unfinished
--- lines was answered before the time
+-- `u.line` is the first unfinished line of the processor `u.cpu`. As observed, one of the lines
+-- that this processor has not finished after the new records was answered before the time
 abbrev pub IsUnfinished : Setting → List (List ObservedLine) → List Record → (time : ℕ) → Unfinished → Type 0
 IsUnfinished g seen news time u =
     (lines : List ObservedLine) × (slice_get seen u.cpu ≡ Some lines)
     × (u.line ≡ length (answers_at g u.cpu news)) × (AreOverBefore lines u.line time → ⊥)
 
--- an unfinished line of `u.cpu` was answered before the processor's next line began
+-- `cpu` has to wait: as observed, a line of `u.cpu` that is still unfinished was answered before
+-- the next line of `cpu` began
 abbrev pub IsWaiting : Setting → List (List ObservedLine) → List Record → (cpu : ℕ) → Unfinished → Type 0
 IsWaiting g seen news cpu u =
     (lines : List ObservedLine) × (one : ObservedLine) × (slice_get seen cpu ≡ Some lines)
     × (slice_get lines (length (answers_at g cpu news)) ≡ Some one) × IsUnfinished g seen news one.from u
 
--- either the processor waits for this line, or its next line may run
+-- with a line `u`, the processor has to wait for that line; with None, its next line may run
 abbrev pub IsWaitingFor : Setting → List (List ObservedLine) → List Record → (cpu : ℕ) → Option Unfinished
     → Type 0
 IsWaitingFor g seen news cpu (Some u) = IsWaiting g seen news cpu u

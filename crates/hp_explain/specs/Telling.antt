@@ -71,12 +71,13 @@ IsExplainingOf form input answers text result =
     HoldsIn (λ names before g. OfAnswers answers g
     (λ seen. IsExplainedOn form names before g seen text result)) input 0
 
--- the cause of a call's fault in the search; `HistoryFull` never comes
+-- the cause of a fault of the search for an order; `HistoryFull` never comes
 abbrev pub IsExplainingCause : Setting → ExploreFault → Type 0
 IsExplainingCause g HistoryFull = ⊥
 IsExplainingCause g OutOfMemory = Unit {0}
 
--- the cause of each fault of the search
+-- the cause of each fault of the search. For a fault in the answers, it is only stated that the
+-- scenario can be read and that its lines may be in scripts
 abbrev pub IsExplainFaultOf : (input answers : List ℕ) → ExplainFault → Type 0
 IsExplainFaultOf input answers (Lab fault) = IsFaultWith IsExplainingCause input 0 fault
 IsExplainFaultOf input answers (Answers fault) =

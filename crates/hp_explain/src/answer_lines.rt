@@ -39,7 +39,8 @@ fn line_number(place: usize) -> u64 {
     (place as u64).saturating_add(1)
 }
 
-/// Reads a processor's answers from the front of `rest`, whose first line has this number.
+/// Reads a processor's heading and its `count` answers from the front of `rest`. `number` is the
+/// number of the first line of `rest` in the text.
 fn read_script(
     alloc: Global,
     rest: &[&str],
@@ -79,7 +80,7 @@ fn check_heading<'a>(
     }
 }
 
-/// Returns whether the text is the processor's heading.
+/// Returns whether the text is the processor's heading, such as `cpu 0`.
 fn is_heading(alloc: Global, text: &str, cpu: u32) -> Result<bool, AllocError>
     ensures { IfOk result (λ is. is ≡ true → text.now ≡ heading cpu) }
 {
@@ -104,7 +105,8 @@ fn not_heading(
     Ok(AnswersFault::NoHeading { cpu, line })
 }
 
-/// Returns the number of the processor whose heading the text is, if there is no such processor.
+/// Returns the number in a heading, if the text is the heading of a processor that the scenario
+/// does not have.
 fn past_last(text: &str, processors: u32) -> Option<u64> {
     let cpu = headed(text)?;
     if cpu < u64::from(processors) {
@@ -114,12 +116,13 @@ fn past_last(text: &str, processors: u32) -> Option<u64> {
     }
 }
 
-/// Returns the number of the processor whose heading the text is.
+/// Returns the processor's number in a heading, or `None` if the text is not a heading.
 fn headed(text: &str) -> Option<u64> {
     number64(text.strip_prefix("cpu ")?)
 }
 
-/// Reads a processor's answers from the front of `rest`, whose first line has this number.
+/// Reads the `count` answers of a processor from the front of `rest`. `number` is the number of the
+/// first line of `rest` in the text.
 fn read_lines(
     alloc: Global,
     rest: &[&str],
@@ -177,7 +180,7 @@ pub(crate) fn too_few(cpu: u32, answers: usize, lines: usize) -> AnswersFault {
 }
 
 /// Returns the fault for the first line of `rest`, which is not an answer. `index` answers of the
-/// processor come before it, and `number` is the number of the line of the first of them.
+/// processor come before it, and `number` is the number of the line with its first answer.
 fn no_answer(rest: &[&str], number: u64, cpu: u32, index: usize, count: usize) -> AnswersFault {
     let line = number.saturating_add(index as u64);
     let [text, ..] = rest else {
@@ -198,8 +201,8 @@ pub(crate) fn not_understood(text: &str, line: u64) -> AnswersFault {
     }
 }
 
-/// Checks what follows the answers: the number of records or nothing, and then empty lines.
-/// `number` is the number of the first line of `rest`.
+/// Checks what follows the answers: a line with the number of records or no such line, and then
+/// only empty lines. `number` is the number of the first line of `rest`.
 fn check_last(
     alloc: Global,
     rest: &[&str],
@@ -248,7 +251,7 @@ fn are_empty(lines: &[&str]) -> bool
     true
 }
 
-/// Returns whether the text gives a number of records.
+/// Returns whether the text is a number of records, such as `7 records`.
 fn is_records(alloc: Global, text: &str) -> Result<bool, AllocError>
     ensures { IfOk result (λ is. is ≡ true → IsRecords text.now) }
 {
@@ -259,7 +262,7 @@ fn is_records(alloc: Global, text: &str) -> Result<bool, AllocError>
     Ok(text == records.as_str())
 }
 
-/// Returns the number of records that the text gives.
+/// Returns the number in a text such as `7 records`, or `None` if the text has another form.
 fn recorded(text: &str) -> Option<u64> {
     number64(text.strip_suffix(" records")?)
 }

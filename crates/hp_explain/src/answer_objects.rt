@@ -97,7 +97,8 @@ fn number_at(value: &Value<'_>, key: &str) -> Option<u64>
     number64(text)
 }
 
-/// Returns the time at a key, or `unknown` if there is no such key.
+/// Returns the time at a key, or `unknown` if there is no such key. Returns `None` if the value at
+/// the key is not a whole number below 2^64.
 fn time_at(value: &Value<'_>, key: &str, unknown: u64) -> Option<u64>
     ensures { IfSome result (HasTime key.now unknown (value_view value.now)) }
 {

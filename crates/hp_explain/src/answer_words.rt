@@ -113,7 +113,8 @@ fn reply_by(word: &str, args: &[&str]) -> Option<Reply> {
     }
 }
 
-/// Returns the reply that a pattern is for.
+/// Returns the reply in a pattern. For a pattern that matches any refusal of a kind, this is its
+/// refusal.
 fn reply_in(pattern: Pattern) -> Reply {
     match pattern {
         Pattern::Exactly(reply) => reply,
@@ -157,7 +158,7 @@ fn cancelled(why: &[&str], what: &str) -> Option<OpEnd> {
     }
 }
 
-/// Returns the refusal with these words, or none for a dash.
+/// Returns the last refusal of a cancelled plan from its words, which are a dash if there was none.
 fn cause_of(words: &[&str]) -> Option<Option<Refusal>> {
     match words {
         ["-"] => Some(None),
@@ -165,8 +166,8 @@ fn cause_of(words: &[&str]) -> Option<Option<Refusal>> {
     }
 }
 
-/// Returns whether the text is that of a line that no call finished: one whose call left no record,
-/// or one that seals.
+/// Returns whether `hotplug run` prints the text for a line that no call finished: its call left no
+/// record, or the line seals the history.
 pub(crate) fn is_of_no_call(text: &str) -> bool {
     text.starts_with("fault ") || text.starts_with("plan: left ") || text.starts_with("sealed ")
 }

@@ -22,11 +22,11 @@ pub enum AnswersFault {
     TooMany { cpu: u32, line: u64 },
     /// The processor has fewer answers than lines.
     TooFew { cpu: u32, answers: u64, lines: u64 },
-    /// The line is what a run prints for a line that no call finished: its call left no record, or
-    /// it seals.
+    /// The line is what `hotplug run` prints for a line of a script that no call finished: its call
+    /// left no record, or it seals the history.
     NotOfACall { line: u64 },
-    /// The line was answered before it began, or before an earlier line of its processor began or
-    /// was answered.
+    /// By the times in this line, a line of a script was answered before it began, or before an
+    /// earlier line of its processor began or was answered.
     TimesFall { line: u64 },
     /// Out of memory.
     OutOfMemory,

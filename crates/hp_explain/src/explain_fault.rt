@@ -1,4 +1,4 @@
-//! Why there was no search for an order.
+//! Why a search for an order that explains answers failed.
 ghost use Rattle.std.specs.Prelude.{◌≡◌};
 ghost use Rattle.hp_search.specs.declared.lab_fault.LabFault.TheVariants.{OutOfMemory};
 ghost use Rattle.hp_explain.specs.declared.explain_fault.ExplainFault.TheVariants.{Answers, Lab};
@@ -9,11 +9,11 @@ use std::alloc::AllocError;
 use std::error::Error;
 use std::fmt;
 
-/// Why there was no search for an order that explains the answers. `OutOfMemory` may come in place
-/// of any other.
+/// Why a search for an order that explains the answers failed. `OutOfMemory` may come in place of
+/// any other.
 #[derive(Clone, Copy, Debug, PartialEq, Eq, Drop)]
 pub enum ExplainFault {
-    /// The scenario cannot be read or searched.
+    /// The scenario cannot be read or searched, or memory ran out.
     Lab(LabFault),
     /// The answers cannot be read.
     Answers(AnswersFault),

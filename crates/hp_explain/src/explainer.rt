@@ -9,8 +9,8 @@ use hp_schedules::FinishedLine;
 use hp_units::Cpu;
 use std::alloc::{AllocError, Global};
 
-/// What was seen, and the longest explained schedule that the search has found so far; the first of
-/// these if there are several.
+/// What was seen of a run, and the longest schedule so far that explains it as the beginning of an
+/// order. If several are equally long, it is the one that the search found first.
 #[derive(Drop)]
 pub(crate) struct Explainer<'a> {
     seen: &'a Observed,
@@ -33,7 +33,8 @@ impl<'a> Explainer<'a> {
         }
     }
 
-    /// Returns the longest schedule. Allocates nothing.
+    /// Returns the longest schedule that explains what was seen as the beginning of an order.
+    /// Allocates nothing.
     pub(crate) fn into_longest(self) -> Vec<Cpu>
         ensures { result ≡ self.entry.longest }
     {
@@ -52,7 +53,7 @@ impl<'a> Explainer<'a> {
         }
     }
 
-    /// Returns whether the line that the latest call finished was seen with this answer.
+    /// Returns whether the line that the latest call finished was seen with the answer that it got.
     fn has_seen_latest(&self, schedule: &[Cpu], finished: &FinishedLine) -> bool
         ensures { (before : List ℕ) (cpu : ℕ) → schedule.now ≡ before ++ cpu ∷ []
             → (IsTrue result ↔ HasSeen self.now.seen.now cpu finished.now.line finished.now.answer) }
@@ -103,7 +104,8 @@ impl<'a> Aim for Explainer<'a> {
         }
     }
 
-    /// The marks are the number of calls, and what the answers of the plans in progress depend on.
+    /// The marks are the number of calls, and the last refusals of the plans in progress, on which
+    /// the answers of these plans depend.
     fn push_marks(
         &self,
         path: &Path<'_>,
@@ -119,8 +121,8 @@ impl<'a> Aim for Explainer<'a> {
         Ok(true)
     }
 
-    /// Returns true for a schedule that finishes all scripts. Keeps any other if it is the longest
-    /// so far.
+    /// Returns true for a schedule that finishes all scripts. Stores any other schedule if it is
+    /// longer than all before.
     fn is_met(
         &mut self,
         alloc: Global,

@@ -13,26 +13,29 @@ use hp_schedules::CallScript;
 use hp_units::Cpu;
 use std::alloc::Global;
 
-/// The result of a search for an order that explains what was seen.
+/// The result of a search for an order that explains what was seen. In such an order, each line is
+/// answered as it was seen, and comes after all lines that were answered before it began.
 #[derive(Drop)]
 pub enum Explanation {
-    /// The first order in which each line is answered as it was seen, as the processors in the
-    /// order of their calls.
+    /// The first order that explains what was seen, as the processors in the order of their calls.
     Explained(Vec<Cpu>),
-    /// No order explains it. This is the first of the longest beginnings of an order in which each
-    /// finished line is answered as it was seen.
+    /// No order explains what was seen. This is the first of the longest beginnings of an order
+    /// that explain what was seen of the lines that they finish.
     Unexplained(Vec<Cpu>),
 }
 
-/// Finds the first order of all calls that explains what was seen. Each line is answered as it was
-/// seen, and begins only when each line that had been answered before it began is finished. Script
-/// k is that of processor k. The machine is not changed. `watch` is called for each place that the
-/// search comes to, and may end it.
+/// Finds the first order of all calls that explains what was seen. In such an order, each line is
+/// answered as it was seen. It begins only after all lines have finished that, as observed, were
+/// answered before it began.
 ///
-/// Orders are in the order of their processors, the lower one first. A plan's calls are interleaved
-/// one by one with those of other processors. The search gives up a beginning at its first answer
-/// that differs. It tries a place once, unless a script undoes steps by their serials, or works on
-/// an operation that it began before its latest one (`OwnWork::Nth`).
+/// Script k is that of processor k. The machine is not changed. `watch` is called for each place
+/// that the search comes to, and may end it.
+///
+/// Of two orders, the one with the lower processor at the first difference comes first. A plan's
+/// calls are interleaved one by one with those of other processors. The search gives up the
+/// beginning of an order at the first answer that differs from what was seen. It goes on from each
+/// state only once, unless a script undoes steps by their serials, or works on an operation that it
+/// began before its latest one (`OwnWork::Nth`).
 ///
 /// # Errors
 ///

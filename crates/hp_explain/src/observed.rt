@@ -18,8 +18,8 @@ pub struct ObservedLine {
     pub to: u64,
 }
 
-/// What was seen of a processor's lines, in their order. No line is answered before an earlier one.
-/// A contract sees the list of the lines.
+/// What was seen of a processor's lines, in their order. No line's `to` is below that of an earlier
+/// line. A contract sees the list of the lines.
 #[derive(Drop)]
 pub struct ObservedScript {
     lines: Vec<ObservedLine>,
@@ -38,8 +38,8 @@ impl Model for ObservedScript {
 }
 
 impl ObservedScript {
-    /// Returns the lines as a script, or `None` if one is answered before an earlier one. Allocates
-    /// nothing.
+    /// Returns the lines as a script, or `None` if a line's `to` is below that of an earlier line.
+    /// Allocates nothing.
     pub fn new(lines: Vec<ObservedLine>) -> Option<ObservedScript>
         ensures some { IfSome result (λ script. script ≡ lines.items) }
         ensures none { IfNone result (AreRising lines.items → ⊥) }
@@ -65,7 +65,7 @@ impl ObservedScript {
         self.lines().get(number)
     }
 
-    /// Returns whether each line that was answered before `time` is among the first `count`.
+    /// Returns whether each line whose `to` is below `time` is among the first `count`.
     fn are_over(&self, count: usize, time: u64) -> bool
         ensures { IsTrue result ↔ AreOverBefore self.now count time }
     {
@@ -77,7 +77,7 @@ impl ObservedScript {
     }
 }
 
-/// Returns whether no line is answered before an earlier one.
+/// Returns whether no line's `to` is below that of an earlier line.
 fn are_rising(lines: &[ObservedLine]) -> bool
     ensures { IsTrue result ↔ AreRising lines.now }
 {
@@ -107,7 +107,7 @@ impl Model for Observed {
 }
 
 impl Observed {
-    /// Returns the scripts as one value. Allocates nothing.
+    /// Creates the value from what was seen of each processor, from processor 0. Allocates nothing.
     pub fn new(scripts: Vec<ObservedScript>) -> Observed
         requires { length scripts.items < 2 ^ 32 }
         ensures { result ≡ scripts.items }
@@ -134,8 +134,8 @@ impl Observed {
         }
     }
 
-    /// Returns whether each line of the processor that was answered before `time` is among its
-    /// first `count`.
+    /// Returns whether each line of the processor whose `to` is below `time` is among its first
+    /// `count`.
     pub(crate) fn are_over(&self, cpu: u32, count: usize, time: u64) -> bool
         requires { cpu < length self.now }
         ensures { (lines : List SeenLine) → slice_get self.now cpu ≡ Some lines

@@ -67,7 +67,7 @@ fn read_all(
     scripts_of(alloc, seen, scripts)
 }
 
-/// Returns the state before the first answer of each processor.
+/// Returns what is seen of each processor before its first answer: no line.
 fn unseen(alloc: Global, processors: usize) -> Result<Vec<SeenScript>, AllocError>
     ensures { IfOk result (λ seen. AreUnseen processors seen.items) }
 {
@@ -135,7 +135,8 @@ impl SeenScript {
         lines.len()
     }
 
-    /// Appends a line. Fails if its times are below known times of the lines before.
+    /// Appends what was seen of a line. Fails if its `to` is below its own `from` or below a known
+    /// time of an earlier line. `line` is the number of its line in the text.
     fn push(&mut self, one: &ObservedLine, line: u64) -> Result<(), AnswersFault>
         ensures { OnOk result (self.new ≡ self.old ++ one.now ∷ []) }
     {
@@ -152,8 +153,8 @@ impl SeenScript {
         Ok(())
     }
 
-    /// Returns the lines as those of a processor with `count` lines, and empties this value. Fails
-    /// if there are not that many.
+    /// Returns the lines with a missing `to` filled in from later lines, and empties this value.
+    /// Fails if there are not `count` lines.
     fn finish(
         &mut self,
         alloc: Global,
@@ -175,7 +176,7 @@ impl SeenScript {
     }
 }
 
-/// Returns what was seen of all processors.
+/// Returns what was seen of all processors. Fails if one of them has fewer answers than lines.
 fn scripts_of(
     alloc: Global,
     seen: &mut [SeenScript],

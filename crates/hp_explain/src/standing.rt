@@ -28,8 +28,8 @@ pub(crate) struct Unfinished {
 pub(crate) enum Next {
     /// Nothing: its script is finished.
     Finished,
-    /// Nothing yet: its next line began after this line was answered, and this line is not
-    /// finished.
+    /// Nothing yet, because it has to wait for this line. As observed, the line was answered before
+    /// the processor's next line began. In the order so far, it is not finished.
     Waits(Unfinished),
     /// Its next call gives its line this answer.
     Answered(LineAnswer),
@@ -54,7 +54,8 @@ pub(crate) struct Standing {
     pub next: Next,
 }
 
-/// Returns the place to which a schedule of the scripts leads. The schedule can be played.
+/// Returns the place to which a schedule of the scripts leads. Fails as if out of memory if it
+/// cannot be played.
 pub(crate) fn path_along<'a>(
     alloc: Global,
     machine: &'a Machine,
@@ -68,7 +69,7 @@ pub(crate) fn path_along<'a>(
     Ok(path)
 }
 
-/// Makes the calls of a schedule that can be played.
+/// Makes the calls of a schedule. Fails as if out of memory if one of them cannot be made.
 fn play_along(alloc: Global, path: &mut Path<'_>, schedule: &[Cpu]) -> Result<(), AllocError>
     requires { path.old.news ≡ [] }
     ensures { OnOk result (IsAlong path.old.setting schedule.now path.new) }
@@ -84,7 +85,8 @@ fn play_along(alloc: Global, path: &mut Path<'_>, schedule: &[Cpu]) -> Result<()
     Ok(())
 }
 
-/// Returns how far each processor is. Makes the next call of each, and takes it back.
+/// Returns how far each processor is in its script after the calls of `path`. Makes the next call
+/// of each processor that need not wait, and takes it back.
 pub(crate) fn standings_of(
     alloc: Global,
     path: &mut Path<'_>,
@@ -101,7 +103,8 @@ pub(crate) fn standings_of(
     Ok(all)
 }
 
-/// Adds how far a processor is. Makes its next call, and takes it back.
+/// Appends how far a processor is in its script. Makes its next call if it need not wait, and takes
+/// the call back.
 fn push_standing(
     all: &mut Vec<Standing>,
     alloc: Global,
@@ -146,7 +149,8 @@ fn answer_seen(seen: &Observed, cpu: u32, line: usize) -> Option<LineAnswer>
     }
 }
 
-/// Returns what comes next for a processor. Makes its next call, and takes it back.
+/// Returns what comes next for a processor. Makes its next call if it need not wait, and takes the
+/// call back.
 fn next_of(
     alloc: Global,
     path: &mut Path<'_>,
@@ -171,7 +175,8 @@ fn next_of(
     }
 }
 
-/// Returns a line that is not finished and was answered before the processor's next line began.
+/// Returns a line for which the processor has to wait, or `None` if its next line may run. The line
+/// is not finished, but as observed, it was answered before the processor's next line began.
 fn waits_for(path: &Path<'_>, seen: &Observed, cpu: u32) -> Option<Unfinished>
     ensures { IsWaitingFor path.now.setting seen.now path.now.news cpu result }
 {
@@ -181,8 +186,8 @@ fn waits_for(path: &Path<'_>, seen: &Observed, cpu: u32) -> Option<Unfinished>
     }
 }
 
-/// Returns the first line of the first processor that has not finished its lines that were answered
-/// before the time.
+/// Returns an unfinished line that, as observed, was answered before `time`, if there is one. It is
+/// the first unfinished line of the lowest processor with such a line.
 fn unfinished_before(path: &Path<'_>, seen: &Observed, time: u64) -> Option<Unfinished>
     ensures some { IfSome result (IsUnfinished path.now.setting seen.now path.now.news time) }
     ensures none { IfNone result (AreAllOverBefore path.now.setting seen.now path.now.news time) }

@@ -24,39 +24,44 @@ use std::alloc::{AllocError, Global};
 /// How a search for an order that explains answers ended.
 #[derive(Clone, Copy, Debug, PartialEq, Eq, Drop)]
 pub enum ExplainResult {
-    /// An order explains them.
+    /// An order explains the answers.
     Explained,
-    /// No order does.
+    /// No order explains the answers.
     Unexplained,
-    /// The search was ended before it knew.
+    /// The search was stopped before it knew whether an order explains the answers.
     Unknown,
 }
 
 /// The result of a search for an order that explains answers, with its text.
 #[derive(Drop)]
 pub struct ExplainText {
-    /// The order that was found, or a text that reports that there is none, or that it is not
-    /// known.
+    /// The order that was found. If there is none, or if that is not known, the text reports it,
+    /// except that it is empty for `ScheduleForm::Scenario`.
     pub text: String,
     /// How the search ended.
     pub result: ExplainResult,
 }
 
-/// Searches the scenario in `scenario` for the first order of all calls that gives each line its
-/// answer in `answers`, processor 0 first. Each line is in the script of its processor, and a
-/// plan's calls are interleaved one by one with those of other processors. `read_answers` documents
-/// the form of the answers, and `explain` the search.
+/// Searches `scenario` for the first order of all calls that gives each line its answer in
+/// `answers`. Each line comes after all lines that were answered before it began. Of two orders,
+/// the one with the lower processor at the first difference comes first.
 ///
-/// If there is such an order, the text has it as `find_text` writes what it found. If there is
-/// none, the text has the longest explained beginning of an order, how far each processor is after
-/// it, and the answer that its next line would get. As a scenario the text is empty then. If
-/// `watch` ended the search, the text reports that nothing is known.
+/// Each line is in the script of its processor, and a plan's calls are interleaved one by one with
+/// those of other processors. `read_answers` documents the form of the answers, and `explain` the
+/// search.
+///
+/// If there is such an order, the text has its number of processor changes and its calls, as words
+/// or as an object; or it is the order as a scenario. If there is none, the text has the longest
+/// explained beginning of an order, how far each processor is after it, and the answer that its
+/// next line would get. If `watch` ended the search, the text reports that nothing is known. As a
+/// scenario the text is empty in these two cases.
 ///
 /// # Errors
 ///
-/// Those of reading the scenario, with the first line that may not be in a script; those of reading
-/// the answers; `OutOfMemory`, which may come in place of any other result. `HistoryFull` never: an
-/// order with a call for which the history has no room explains nothing.
+/// Those of reading the scenario; `NotForScript` with the first line that may not be in a script;
+/// those of reading the answers; `OutOfMemory`, which may come in place of any other result.
+/// `HistoryFull` never comes: an order with a call for which the history has no room explains
+/// nothing.
 pub fn explain_text<W: Watch>(
     alloc: Global,
     scenario: &[u8],
@@ -194,9 +199,9 @@ fn text_of(
     }
 }
 
-/// Returns the text, in `form`, for answers that no order explains: the longest explained
-/// beginning, and how far the processors are after it. As a scenario the text is empty. Replays the
-/// schedule.
+/// Returns the text, in `form`, for answers that no order explains: the longest explained beginning
+/// of an order, and how far the processors are after it. As a scenario the text is empty. Replays
+/// the beginning.
 fn longest_told(
     alloc: Global,
     prepared: &Prepared,
@@ -219,8 +224,8 @@ fn longest_told(
     Ok(text)
 }
 
-/// Returns the text, in `form`, of a search that was ended before it knew. As a scenario the text
-/// is empty.
+/// Returns the text that reports, in `form`, that a search was ended before it knew the result. As
+/// a scenario the text is empty.
 fn unknown_told(form: ScheduleForm) -> &'static str
     ensures { result.now ≡ unknown_told form }
 {

@@ -13,8 +13,8 @@ const BETWEEN: &str = ", ";
 
 // ---- words
 
-/// Writes that no order explains the answers, the calls of the longest beginning, and a line for
-/// each processor. Owners are written by name.
+/// Writes that no order explains the answers, the calls of the longest explained beginning, and
+/// how far each processor is after it, one line per processor. Owners are written by name.
 pub(crate) fn write_unexplained(
     out: &mut String,
     names: &IndexSet<Text>,
@@ -99,7 +99,7 @@ fn write_quoted(
 
 // ---- JSON
 
-/// Writes the same as an object of JSON.
+/// Writes what `write_unexplained` writes, as a JSON object.
 pub(crate) fn write_unexplained_object(
     out: &mut String,
     names: &IndexSet<Text>,
@@ -113,7 +113,7 @@ pub(crate) fn write_unexplained_object(
     out.push_str("]}\n")
 }
 
-/// Writes how far each processor is, as objects.
+/// Writes how far each processor is, one JSON object per processor.
 fn write_standing_objects(out: &mut String, standings: &[Standing]) -> Result<(), AllocError> {
     let mut is_first = true;
     for standing in standings {
@@ -124,7 +124,7 @@ fn write_standing_objects(out: &mut String, standings: &[Standing]) -> Result<()
     Ok(())
 }
 
-/// Writes how far a processor is, as an object.
+/// Writes how far a processor is, as a JSON object.
 fn write_standing_object(out: &mut String, standing: Standing) -> Result<(), AllocError> {
     let finished = standing.finished;
     let lines = standing.lines;
@@ -134,7 +134,8 @@ fn write_standing_object(out: &mut String, standing: Standing) -> Result<(), All
     out.push('}')
 }
 
-/// Writes what comes next for a processor, as keys of its object.
+/// Writes what comes next for a processor, as a key of its JSON object. Writes nothing unless it
+/// waits for a line, or its next call gives an answer.
 fn write_next_keys(out: &mut String, next: Next) -> Result<(), AllocError> {
     match next {
         Next::Waits(unfinished) => {

@@ -54,7 +54,7 @@ pub record IsTried (aim : AimValue) (place : List ℕ) : Type 0 where
   pub tried : aim.tries before cpu
 
 -- the new aim seeks only schedules that the old one seeks, and admits each place that the old one
--- admits, with the same marks
+-- admits, with the same marks. It has to come to every place only if the old one has to
 pub record IsNarrower (old new : AimValue) : Type 0 where
   pub sought : (s : List ℕ) → new.sought s → old.sought s
   pub admits : (s : List ℕ) → old.admits s → new.admits s
@@ -63,7 +63,7 @@ pub record IsNarrower (old new : AimValue) : Type 0 where
 
 -- ---- equivalent places
 
--- the numbers that decide the further calls of the processors below `cpus`, one processor after
+-- the numbers of the positions (IsSteered) of the processors below `cpus`, one processor after
 -- another; `f` renumbers the operations
 abbrev pub AreSteered : (f : ℕ → ℕ) → Setting → (cpus : ℕ) → List Record → List ℕ → Type 0
 AreSteered f g zero news numbers = numbers ≡ []
@@ -104,9 +104,9 @@ pub record IsLawful (g : Setting) (aim : AimValue) : Type 0 where
 abbrev pub IsDone : Setting → AimValue → (place : List ℕ) → Type 0
 IsDone g aim place = NoneFrom aim place × (aim.is_whole → HasRoomFrom g place)
 
--- either the first sought schedule, with room in the history for each of its calls, or None: no
--- schedule is sought. If the search has to come to every place, None also means that the history has
--- room for each call
+-- either a schedule that the search may return, with room in the history for each of its calls; no
+-- sought schedule comes before it or continues it. Or None: no schedule is sought. If the search
+-- has to come to every place, None also means that the history has room for each call
 abbrev pub IsFirstSought : Setting → AimValue → Option (List ℕ) → Type 0
 IsFirstSought g aim None = ((s : List ℕ) → aim.sought s → ⊥) × (aim.is_whole → FillsHistory g → ⊥)
 IsFirstSought g aim (Some s) =

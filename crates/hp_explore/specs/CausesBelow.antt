@@ -39,7 +39,8 @@ caused_long g h k (suc n) xs ys a b =
       caused_long g h k n a.0 b.0 a.5 b.5,
     )
 
--- two places with equal lists of these numbers have equal numbers for each processor
+-- if the lists of the numbers of refusals are equal at two places, the numbers are equal for each
+-- processor
 caused_at : (g : Setting) (h k : List Record) (n : ℕ) (xs ys : List ℕ) → xs ≡ ys
     → AreCausedBelow g n h xs → AreCausedBelow g n k ys → (cpu : ℕ) → cpu < n
     → (part : List ℕ) × IsCaused g cpu h part × IsCaused g cpu k part

@@ -145,7 +145,8 @@ pub calls_counted : (g : Setting) (h : List Record) → plays g (schedule_of h) 
 unfolding plays
 calls_counted g h played = many_played g (schedule_of h) [] h (none_many (length g.scripts)) played
 
--- two places with the same marks have equally many records
+-- two places with the same marks (numbers for the progress of the wanted lines) have equally many
+-- records
 pub calls_counted_alike : (g : Setting) (wanted : List Wanted) (h k : List Record) (marks : List ℕ)
     → plays g (schedule_of h) ≡ Some h → plays g (schedule_of k) ≡ Some k
     → AreMarks g.layout.cpus g.scripts wanted (length g.scripts) h marks

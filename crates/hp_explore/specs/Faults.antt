@@ -57,7 +57,8 @@ pub record FillsWithin (g : Setting) (limit : ℕ) : Type 0 where
   pub first : HasRoomBefore g (place ++ call.cpu ∷ [])
   pub few : HasMoreThan (λ s. (x : OutcomeValue) × Before g (place ++ call.cpu ∷ []) s x) limit → ⊥
 
--- the search of a part reaches such a call, and at most `limit` schedules of the part come before it
+-- the search of a part reaches a call for which the history has no room. It is the first such call
+-- of this search, and at most `limit` complete schedules of the part come before it
 pub record FillsPartWithin (g : Setting) (part : PartValue) (limit : ℕ) : Type 0 where
   pub place : List ℕ
   pub call : HasNoRoom g place

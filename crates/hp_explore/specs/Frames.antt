@@ -24,9 +24,10 @@ pub record AreTurns (g : Setting) (part : PartValue) (news : List Record) (ends 
   pub over : IsOverBelow g news frame.next frame.is_over
   pub within : frame.next ≤ length g.scripts
 
--- the levels below the top of the stack, latest first. At each, the processor before the next one made
--- a call, and the history had room for it. The trail did not get shorter from a level to the one above
--- it; at the level above the first of these it had `most` shares
+-- the levels below the top of the stack, latest first. At each, the processor before `next` made
+-- the call that leads to the place above, and the history had room for it. A level's `start` is how
+-- long the trail (the list of what was added to the ends) was when the walk came to its place. It
+-- is not greater than that of the level above, or than `most` at the first of these levels
 abbrev pub AreBelow : Setting → PartValue → TallyValue → (most : ℕ) → List Record → List Level → Type 0
 AreBelow g part tally most news [] = news ≡ []
 AreBelow g part tally most news (frame ∷ frames) =
@@ -95,7 +96,7 @@ pub record IsComing (w : Walk) (frames : List Level) : Type 0 where
   pub few : w.processors < 2 ^ 32
   pub short : length w.path.news ≤ w.path.setting.layout.history
 
--- a walk that has stopped was ended by its watch
+-- if the walk has stopped, its watch (which may end a search early) has ended it
 abbrev pub IsEndedBy : (ended : Type 0) → Walk → Type 0
 IsEndedBy ended w = w.reach.is_stopped ≡ true → ended
 

@@ -15,7 +15,7 @@ use Rattle.hp_schedules.specs.declared.changes.Change.TheVariants.{Stays, Begins
 abbrev pub ops_after : Setting → List Record → List ℕ
 ops_after g news = map (λ cpu. own_operation (receipts_of cpu news)) (range_with_len 0 (length g.scripts))
 
--- no Cancel can take back an earlier step after the change
+-- whether the change is `Ends`, which empties the list of operations that a Cancel can undo
 abbrev pub is_end : Change → Bool
 is_end Stays = false
 is_end Begins = false
@@ -23,8 +23,8 @@ is_end (Works op) = false
 is_end (Cancels op) = false
 is_end Ends = true
 
--- the new records so far, and their beginning up to the latest one after which no Cancel can take back
--- an earlier step
+-- the new records so far, and their beginning up to the latest one whose change is `Ends`: it is
+-- not refused, and no Read, Begin, DrainFor, Migrate or Cancel
 pub record Ended : Type 0 where
   pub all : List Record
   pub kept : List Record
@@ -41,12 +41,13 @@ abbrev pub ended : List Record → Ended
 ended news = fold ended_with (record { all = []; kept = [] }) news
 
 -- the operations by which a search renumbers at the place after the new records: the operation that
--- each processor had begun last, at the latest time when a Cancel had nothing to take back
+-- each processor had begun last when the latest record with the change `Ends` was made; 0 for each
+-- if there is no such record
 unfoldable pub ops_at : Setting → List Record → List ℕ
 ops_at g news = ops_after g (ended news).kept
 
--- the number of an operation at the place after the new records. Operations that a script names by
--- number keep theirs
+-- the number that a search gives an operation at the place after the new records. An operation up
+-- to the greatest one that a script names by number gets twice its own number at every place
 abbrev pub numbering : Setting → List Record → ℕ → ℕ
 numbering g news op = number_of (greatest_named g.scripts) (ops_at g news) op
 

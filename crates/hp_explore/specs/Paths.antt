@@ -43,7 +43,7 @@ IsOver p = (cpu : ℕ) → next_call p.setting cpu p.news ≡ None
 
 -- ---- the calls that a path can take back
 
--- `way` leads from the new steps, whose last record is `r`, back to the old steps
+-- `way` undoes the call with the record `r`: it leads from `new` back to `old`
 abbrev pub IsWayOver : Way → StepsValue → Record → StepsValue → Type 0
 IsWayOver (Mark mark) old r new = IsLater old r mark new
 IsWayOver (Kept steps) old r new = (steps.value ≡ old) × (new.records ≡ old.records ++ r ∷ [])

@@ -29,7 +29,7 @@ turns_left processors calls (cpu ∷ place) next =
     (processors - (cpu + 1)) * (turns_below processors calls + 2) + 1
     + turns_left processors (calls - 1) place next
 
--- the number of calls that the history has room for
+-- the number of calls of the scripts that the history has room for
 abbrev pub room_of : Setting → ℕ
 room_of g = g.layout.history - length g.start
 
@@ -48,7 +48,7 @@ abbrev pub search_at : (path : PathValue) → (schedule : List ℕ) → (next : 
 search_at path schedule next visited =
     record { path = path; schedule = schedule; next = next; visited = visited }
 
--- each place on the path before this one is admitted
+-- each place on the path before this one is admitted: the aim lets the search come to it
 abbrev pub AreAdmitted : AimValue → (place : List ℕ) → Type 0
 AreAdmitted aim place =
     (start : List ℕ) (cpu : ℕ) → Extends place (start ++ cpu ∷ []) → aim.admits start

@@ -1,4 +1,4 @@
--- The numbers that decide further calls, compared at two places processor by processor.
+-- The numbers of the processors' positions, compared at two places processor by processor.
 use Rattle.std.proofs.Common.{◌≡◌, ℕ, zero, suc, ◌<◌, ◌≤◌, List, ◌++◌, length, ap, sym, subst, ◌∙◌, append_assoc, arith, inl, inr}
 use Rattle.std.specs.Prelude.{◌⊎◌}
 use Rattle.std.proofs.lemmas.Bool.{cases_lt}
@@ -16,8 +16,8 @@ regrouped xs ys a b c d rest more first second is =
     ∙ (ap (λ (zs : List ℕ). zs ++ rest) (sym first)
     ∙ (is ∙ (ap (λ (zs : List ℕ). zs ++ more) second ∙ append_assoc c d more)))
 
--- if two equal lists begin with the numbers that decide the further calls at two places, then these
--- numbers are equal, and so are the numbers after them
+-- two equal lists begin with the numbers of the processors' positions at two places. Then these
+-- numbers are equal, and so is the rest of the lists
 pub steered_apart : (p q : ℕ → ℕ) (g : Setting) (h k : List Record) (n : ℕ) (xs ys rest more : List ℕ)
     → n ≤ length g.scripts
     → AreSteered p g n h xs → AreSteered q g n k ys → xs ++ rest ≡ ys ++ more → (xs ≡ ys) × (rest ≡ more)
@@ -35,7 +35,8 @@ steered_apart p q g h k (suc n) xs ys rest more within a b is =
           last.1,
         )
 
--- two places with equal numbers have equal numbers for each processor
+-- if the lists of the numbers of positions are equal at two places, the numbers are equal for each
+-- processor
 steered_below : (p q : ℕ → ℕ) (g : Setting) (h k : List Record) (n : ℕ) (xs ys : List ℕ)
     → n ≤ length g.scripts → xs ≡ ys
     → AreSteered p g n h xs → AreSteered q g n k ys → (cpu : ℕ) → cpu < n

@@ -12,8 +12,9 @@ use Rattle.hp_explore.specs.declared.visited.Visited.{Visited}
 
 -- ---- the places visited
 
--- the key of a place: the numbers of its state and of its openings, the numbers that decide the further
--- calls, and the aim's marks. Operations have the numbers that `numbering` gives them
+-- the key of a place: the number of its state, the number of its list of operations that a Cancel
+-- can undo, the numbers of the processors' positions, and the aim's marks. Operations have the
+-- numbers that `numbering` gives them
 pub record IsPlaceKey (g : Setting) (aim : AimValue) (stops : StopsValue) (news : List Record)
     (key : List ℕ) : Type 0 where
   pub state : ℕ
@@ -40,7 +41,7 @@ pub record AreVisited (g : Setting) (aim : AimValue) (schedule : List ℕ) (v : 
   pub each : (i : ℕ) (key : List ℕ) → slice_get v.keys i ≡ Some key
       → IsVisited g aim schedule v.stops key
 
--- if places are kept, `stops` and `latest` have the numbers for the place after these records
+-- if places are kept, `stops`, `latest` and `fixed` are those of the place after these records
 abbrev pub AreFollowed : Setting → List Record → Visited → Type 0
 AreFollowed g news v =
     v.is_on ≡ true

@@ -22,7 +22,7 @@ news_in g m = drop (length g.start) m.history
 abbrev pub place_of : Setting → MachineValue → List ℕ
 place_of g m = schedule_of (news_in g m)
 
--- the steps that a schedule leads to; None if it cannot be played
+-- the state that a schedule leads to, with its records; None if the schedule cannot be played
 abbrev pub LeadsTo : Setting → List ℕ → Option StepsValue → Type 0
 LeadsTo g schedule None = plays g schedule ≡ None
 LeadsTo g schedule (Some p) = IsAt g p × (schedule_of p.records ≡ schedule)
@@ -65,7 +65,7 @@ abbrev pub IsGone : (start : MachineValue) → (cpu serial : ℕ) → Event → 
 IsGone start cpu serial event =
     (kept : ℕ) × (event ≡ UndoAfter kept) × (serial ≤ kept) × (cpu < start.layout.cpus)
 
--- the same state with one more record, and without deltas to undo
+-- the same state with one more record, and without deltas (changes noted for undoing)
 abbrev pub with_record : StepsValue → Record → StepsValue
 with_record p latest =
     record { layout = p.layout; state = p.state; deltas = []; records = p.records ++ latest ∷ [] }

@@ -20,15 +20,16 @@ use std::alloc::{AllocError, Global};
 /// If the aim is whole, the search covers every place. If it then finds nothing, the history also
 /// has room for every call.
 pub trait Aim {
-    /// What the aim is in a setting: which schedules are sought, which places are admitted, which
-    /// calls may be tried there, which numbers are marks, and whether the aim is whole.
+    /// What the aim is in a setting: which schedules are sought, which ones the search may return,
+    /// which places are admitted, which calls may be tried there, which numbers are marks, and
+    /// whether the aim is whole.
     ghost shows: { Self → Setting → AimValue };
 
     /// What `is_met` may make of the aim.
     ghost becomes: { Self → Setting → Self → Type 0 };
 
     /// Returns whether the processor's next call may be tried. If not, no sought schedule makes it
-    /// here.
+    /// here, and the aim is not whole.
     fn may_try(&self, path: &Path<'_>, schedule: &[Cpu], cpu: u32) -> bool
         requires schedule { schedule.now ≡ schedule_of path.now.news }
         requires admitted { (shows self.now path.now.setting).admits schedule.now }
@@ -37,7 +38,7 @@ pub trait Aim {
             → MayBeSkipped (shows self.now path.now.setting) (schedule.now ++ cpu ∷ []) };
 
     /// Returns whether the search goes on from the place that the latest call led to. If not, no
-    /// sought schedule continues from it.
+    /// sought schedule continues from it, and the aim is not whole.
     fn admits(&self, path: &Path<'_>, schedule: &[Cpu], processors: u32) -> bool
         requires processors { processors ≡ length path.now.setting.scripts }
         requires schedule { schedule.now ≡ schedule_of path.now.news }
@@ -62,8 +63,8 @@ pub trait Aim {
             × (numbers.new.items ≡ numbers.old.items ++ marks)
             × (shows self.now path.now.setting).marks path.now.news marks) };
 
-    /// Returns whether the schedule is one that is sought. May make the aim narrower; the search
-    /// then goes on by the new aim.
+    /// Returns whether the search is to return this schedule. If not, the schedule is not sought.
+    /// May make the aim narrower; the search then goes on by the new aim.
     fn is_met(
         &mut self,
         alloc: Global,
@@ -91,7 +92,7 @@ pub trait Aim {
     ghost narrower: { (aim : Self) (g : Setting) (new : Self) → becomes aim g new
         → IsNarrower (shows aim g) (shows new g) };
 
-    /// Sought schedules can be played, and from places with the same key the same continuations are
-    /// sought.
+    /// Sought schedules can be played. Places with the same marks have equally many calls. From
+    /// places with the same key, the same continuations are sought.
     ghost lawful: { (aim : Self) (g : Setting) → IsLawful g (shows aim g) };
 }

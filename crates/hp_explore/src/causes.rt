@@ -1,12 +1,12 @@
-//! What the answers of the plans in progress depend on.
+//! The last refusals in the plans in progress, on which the answers to these plans depend.
 ghost use Rattle.std.specs.Prelude.{◌≡◌, ◌++◌, List, OnOk, length, ℕ};
 ghost use Rattle.hp_explore.specs.CausesBelow.{AreCausedBelow};
 
 use crate::path::Path;
 use std::alloc::AllocError;
 
-/// Appends what the answers of the processors' plans in progress depend on, two numbers for each
-/// processor.
+/// Appends two numbers for each processor: the last refusal of a migration or a commit in its plan
+/// in progress, or 0 and 0 if there is none. The answers to these plans depend on it.
 pub fn push_all_causes(
     path: &Path<'_>,
     processors: u32,

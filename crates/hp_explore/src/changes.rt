@@ -29,7 +29,7 @@ pub(crate) fn exceeds(budget: Option<u64>, schedule: &[Cpu], next: Cpu) -> bool
     }
 }
 
-/// Returns the changes of the schedule with one more call.
+/// Returns how many changes of processor the schedule has with one more call.
 #[tactic(auto, using(crate::proofs::Growing::changes_none, crate::proofs::Growing::changes_last))]
 fn changes_with(schedule: &[Cpu], next: Cpu) -> u128
     ensures { result ≡ changes (schedule.now ++ next ∷ []) }
@@ -43,7 +43,7 @@ fn changes_with(schedule: &[Cpu], next: Cpu) -> u128
     so_far + more
 }
 
-/// Returns 1 if the two processors differ.
+/// Returns 1 if the two processors differ, and 0 otherwise.
 fn change(cpu: Cpu, next: Cpu) -> usize
     ensures is { result ≡ change cpu next }
     ensures one { result ≤ 1 }

@@ -28,7 +28,7 @@ pub struct Exploration {
     pub is_whole: bool,
 }
 
-/// Why schedules were not counted.
+/// Why an exploration failed.
 #[derive(Error, Clone, Copy, Debug, PartialEq, Eq, Drop)]
 pub enum ExploreFault {
     /// The layout's history has no room for a call of some schedule.
@@ -119,8 +119,8 @@ pub fn explore<W: Watch>(
 /// # Errors
 ///
 /// `HistoryFull` if the search reaches a call for which the layout's history has no room, before it
-/// finds more schedules of the part than `limit`. The schedule up to that call belongs to the part,
-/// or is too short to decide its part. `OutOfMemory` if memory allocation fails.
+/// finds more schedules of the part than `limit` or is ended. The schedule before that call belongs
+/// to the part, or is too short to decide its part. `OutOfMemory` if memory allocation fails.
 pub fn explore_part<W: Watch>(
     alloc: Global,
     machine: &Machine,

@@ -33,13 +33,14 @@ pub enum Found {
 /// Script k is that of processor k.
 ///
 /// Of several such schedules, returns the first in the order of `explore`. The machine is not
-/// changed. `watch` is called for each place that the search comes to, and may end it.
+/// changed. `watch` is called for each place, after the first, from which the search goes on, and
+/// may end the search.
 ///
 /// The search has three steps. It tries the schedules with fewer than three changes, by rising
 /// number of changes. If none of these ends as wanted, it tries all, up to the first that does.
 /// Then it tries the schedules with fewer changes than that one. A pass skips a place that is
-/// equivalent to one that it has tried, unless a script undoes steps by their serials, or works on
-/// an operation that it began before its latest one (`OwnWork::Nth`).
+/// equivalent to one that it has tried. It skips none if a script undoes steps by their serials, or
+/// works on the operation of its n-th Begin (`OwnWork::Nth`).
 ///
 /// # Errors
 ///

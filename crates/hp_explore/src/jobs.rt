@@ -22,7 +22,7 @@ use std::thread::Threads;
 /// The largest number of threads.
 const MOST_JOBS: u32 = 256;
 
-/// Watches the search of one part, and ends it once it has kept its share of the memory.
+/// Watches the search of one part, and ends it once it takes more than `memory` bytes.
 #[derive(Drop)]
 struct PartWatch {
     memory: u64,
@@ -44,9 +44,10 @@ impl Watch for PartWatch {
 
 /// Explores all schedules like `explore`, in `jobs` threads, at most 256.
 ///
-/// Each thread searches a part with its share of the memory, and the ends of all parts are merged.
-/// `watch` is then called once, with the total. If a part fails, stops at the limit or takes more
-/// than its share, or the merged ends exceed the limit, one thread searches all schedules anew.
+/// Each thread searches one part with an equal share of the memory that `watch` allows, and the
+/// ends of all parts are merged. `watch` is then called once, with the total. One thread searches
+/// all schedules anew if a part fails, stops at the limit or takes more than its share, or if the
+/// merged ends exceed the limit.
 ///
 /// A part may take nearly as long as the whole search if many places in different parts are
 /// equivalent, because each part explores them for itself.
@@ -98,7 +99,7 @@ pub fn explore_with_jobs<R: Threads + Sync, W: Watch>(
 }
 
 /// Returns the ends of all schedules, searched in `parts` parts. Returns `None` if they count more
-/// than the limit, or if a part or the merge failed.
+/// than the limit, if the schedules of a part were not all counted, or if the merge failed.
 fn search_parts<R: Threads + Sync, W: Watch>(
     rt: &R,
     alloc: Global,
@@ -128,7 +129,8 @@ fn search_parts<R: Threads + Sync, W: Watch>(
     }
 }
 
-/// Returns the ends of each part, each searched in a thread of its own, or `None` if a part failed.
+/// Returns the ends of each part, each searched in a thread of its own. Returns `None` if the
+/// schedules of a part were not all counted, or if memory or threads ran out.
 fn ends_of_parts<R: Threads + Sync>(
     rt: &R,
     alloc: Global,
@@ -158,7 +160,7 @@ fn ends_of_parts<R: Threads + Sync>(
     }
 }
 
-/// Returns the ends of the part at `index`, or `None` if they were not all counted.
+/// Returns the ends of the part at `index`, or `None` if its schedules were not all counted.
 fn ends_of_part(
     alloc: Global,
     machine: &Machine,

@@ -11,11 +11,12 @@ use hp_units::{Record, Serial};
 use std::alloc::{AllocError, Global};
 use std::marker::Model;
 
-/// The operations that the processors began last, at the place where a search is and at each place
-/// before it.
+/// The operation by which each processor's operations are numbered, at the place where a search is
+/// and at each place before it.
 ///
-/// They are read anew only after a call that leaves nothing for a Cancel to take back. So all
-/// states that a Cancel can lead back to are numbered like the current one.
+/// It is the operation that the processor had begun last when the latest call with `Change::Ends`
+/// was made, or 0. No Cancel can take back that call or an earlier one, if no script has an
+/// `UndoAfter`. So all states that a Cancel can lead back to are numbered like the current one.
 pub(crate) struct LatestOps {
     here: Vec<Serial>,
     before: Vec<Vec<Serial>>,
@@ -29,7 +30,8 @@ impl Drop for LatestOps {
 }
 
 impl LatestOps {
-    /// Creates those before any call, where the processors have these positions.
+    /// Creates the operations of the place before any call. `positions` are those of the processors
+    /// there.
     pub(crate) fn start(
         alloc: Global,
         positions: &Positions,
@@ -46,14 +48,14 @@ impl LatestOps {
         })
     }
 
-    /// Returns those at the place, from processor 0 on.
+    /// Returns the operations by which the current place is numbered, from processor 0 on.
     pub(crate) fn here(&self) -> &[Serial]
         ensures { result.now ≡ self.now.here.items }
     {
         self.here.as_slice()
     }
 
-    /// Moves to the place after a call, where the processors have these positions.
+    /// Moves to the place after a call. `positions` are those of the processors there.
     pub(crate) fn go_on(
         &mut self,
         alloc: Global,
@@ -88,7 +90,8 @@ impl LatestOps {
     }
 }
 
-/// Returns whether the call leaves nothing for a Cancel to take back.
+/// Returns whether the change of the call is `Change::Ends`, which empties the list of operations
+/// that a Cancel can undo.
 fn leaves_nothing(call: &Record) -> bool
     ensures { result ≡ is_end (change_of call.now) }
 {

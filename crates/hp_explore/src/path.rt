@@ -156,7 +156,8 @@ impl<'a> Path<'a> {
         self.positions.answered(self.scripts, latest(records))
     }
 
-    /// Appends two numbers for the last refusal that the processor's unfinished plan has met.
+    /// Appends two numbers for the last refusal of a migration or a commit in the processor's plan
+    /// in progress; both are 0 if there is none.
     pub fn push_causes(&self, cpu: u32, numbers: &mut Vec<u32>) -> Result<(), AllocError>
         requires { cpu < length self.now.setting.scripts }
         ensures { OnOk result ((part : List ℕ) × (numbers.new.items ≡ numbers.old.items ++ part)

@@ -16,7 +16,8 @@ use std::alloc::Global;
 /// Plays a schedule on a copy of the machine and returns the copy, whose history then shows the
 /// schedule's records.
 ///
-/// Returns `None` if the schedule names a processor whose script is finished.
+/// Returns `None` if the schedule names a processor that has no script, or whose script is
+/// finished.
 ///
 /// # Errors
 ///

@@ -24,9 +24,9 @@ use std::marker::Model;
 enum Turn {
     /// The search continues.
     On,
-    /// It has come to a place that it had not visited.
+    /// The search has come to a place from which it goes on.
     New,
-    /// It is at a schedule that is sought.
+    /// The search has found a schedule.
     Found,
     /// No schedule is left.
     Over,
@@ -55,14 +55,14 @@ impl<'a> Model for Search<'a> {
     } };
 }
 
-/// Returns the first schedule that the aim seeks. The schedules are in the order of their
-/// processors, the lower one first, and a schedule comes after those that continue it. Script k is
-/// that of processor k. The machine is not changed.
+/// Returns the first schedule that meets the aim (`Aim::is_met`), or `None` if no schedule is
+/// sought. The schedules are in the order of their processors, the lower one first, and a schedule
+/// comes after those that continue it. Script k is that of processor k. The machine is not changed.
 ///
 /// The search skips a place that is equivalent to a visited one, unless a script undoes steps by
-/// their serials, or works on an operation that it began before its latest one (`OwnWork::Nth`).
-/// Adds to `places` the number of places that it comes to. `watch` is called for each, and may end
-/// the search.
+/// their serials, or works on the operation of its n-th Begin (`OwnWork::Nth`). Adds to `places`
+/// the number of places, after the first, from which the search goes on. `watch` is called for each
+/// of these, and may end the search.
 ///
 /// # Errors
 ///
@@ -238,7 +238,8 @@ impl<'a> Search<'a> {
         Ok(known)
     }
 
-    /// Takes the latest call back and moves on to the processor after the one that made it.
+    /// Takes the latest call back and moves on to the processor after the one that made it. Returns
+    /// `Over` if there is no call.
     fn up(&mut self) -> Turn
         requires schedule { self.old.schedule ≡ schedule_of self.old.path.news }
         requires room { length self.old.path.setting.scripts < 2 ^ 32 }

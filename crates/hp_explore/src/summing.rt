@@ -15,7 +15,7 @@ use thiserror::Error;
 /// Why parts could not be merged.
 #[derive(Error, Clone, Copy, Debug, PartialEq, Eq, Drop)]
 pub enum SumFault {
-    /// They count 2^64 schedules or more.
+    /// The parts count 2^64 schedules or more.
     #[error("2^64 schedules or more")]
     TooMany,
     /// Memory allocation failed.

@@ -170,7 +170,7 @@ fn copy_of(alloc: Global, end: &Ending) -> Result<Ending, AllocError>
     })
 }
 
-/// Returns the index of the end that has this outcome.
+/// Returns the index of the end that has this outcome, if there is one.
 ///
 /// It is nearly always the newest end with this hash. If not, all ends are compared.
 fn place_of(
@@ -203,7 +203,7 @@ fn is_end_at(ends: &[Ending], place: usize, outcome: &Outcome) -> bool
     }
 }
 
-/// Returns the index of the first end that has this outcome.
+/// Returns the index of the first end that has this outcome, if there is one.
 fn first_place_of(ends: &[Ending], outcome: &Outcome) -> Option<usize>
     ensures some { IfSome result (HasEndAt ends.now outcome.now) }
     ensures none { IfNone result (HasNoEnd ends.now outcome.now) }

@@ -83,8 +83,8 @@ pub(crate) fn step_back(
 /// Makes the processor's next call and returns the way back over it. After an error, everything is
 /// as it was.
 ///
-/// Most calls are steps that can be taken back. An undo or a Cancel may itself go back, so the
-/// earlier steps are kept whole for it.
+/// Most calls are steps that can be taken back. An undo or a Cancel may itself go back to an
+/// earlier state, so the state before it is kept whole.
 fn make_turn(
     alloc: Global,
     start: &Machine,
@@ -136,10 +136,11 @@ fn may_go_back(event: &Event) -> bool
     matches!(event, Event::UndoAfter { .. } | Event::Cancel { .. })
 }
 
-/// Returns the steps after a call that may go back.
+/// Returns the state and the records after an undo or a Cancel, which may go back to an earlier
+/// state. Returns `None` if the processor has no next call.
 ///
-/// An undo with nothing to undo leaves the state as it is. After any other call of this kind, all
-/// calls are played again from the start.
+/// An undo above a serial that is not used yet leaves the state as it is. For any other undo or
+/// Cancel, all calls are played again from the start.
 fn steps_after(
     alloc: Global,
     start: &Machine,
@@ -194,7 +195,7 @@ fn with_record(alloc: Global, here: &Steps, latest: Record) -> Result<Steps, All
 }
 
 /// Returns where the processor's next call leads, by playing all calls again on a copy of the
-/// machine. Returns `None` if its script is finished. Fails like `play`.
+/// machine. Returns `None` if the processor has no next call. Fails like `play`.
 fn replayed(
     alloc: Global,
     start: &Machine,

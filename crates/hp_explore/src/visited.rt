@@ -24,9 +24,9 @@ use std::alloc::{AllocError, Global};
 /// The keys of the places that a search has visited, and the numbers of the place where it is.
 ///
 /// Two places with the same key continue alike: with the same calls, and the aim seeks the same
-/// continuations. So a place is tried once. In keys, operations above `fixed` are numbered by the
-/// processors that began them last, since it does not matter when they began. `key` is the key
-/// written last. With `is_on` false no place is ever kept.
+/// continuations. So a place is tried once. In keys, an operation in `latest` that is above `fixed`
+/// has a number that depends only on its processor, since it does not matter when it began. `key`
+/// is the key written last. With `is_on` false no place is ever kept.
 pub(crate) struct Visited {
     is_on: bool,
     fixed: Serial,
@@ -80,7 +80,7 @@ impl Visited {
         })
     }
 
-    /// Moves on to the place after the latest call, where the processors have these positions.
+    /// Moves on to the place after the latest call. `positions` are those of the processors there.
     pub(crate) fn go_on(
         &mut self,
         alloc: Global,
@@ -201,8 +201,8 @@ impl Visited {
     }
 }
 
-/// Appends what the further calls of each processor depend on. Returns whether each number fits 32
-/// bits.
+/// Appends the numbers of each processor's position (`push_steering`), from processor 0 on. Returns
+/// whether each fits 32 bits; if not, some are missing.
 fn push_all_steering(
     positions: &Positions,
     scripts: &[CallScript],

@@ -90,8 +90,8 @@ impl<'a> Walk<'a> {
         })
     }
 
-    /// Walks to the end and returns true if all schedules are counted. Returns false if it stopped
-    /// before: at the limit, or because the watch ended it.
+    /// Walks to the end and returns true if all schedules of the part are counted. Returns false if
+    /// it stopped before: at the limit, or because the watch ended it.
     pub(crate) fn run<W: Watch>(
         &mut self,
         alloc: Global,
@@ -302,7 +302,8 @@ impl<'a> Walk<'a> {
     }
 }
 
-/// Returns an empty memo for the beginning of the scripts.
+/// Creates a memo, the table of counts of walked places, that is empty and at the beginning of the
+/// scripts.
 fn memo_at(alloc: Global, machine: &Machine, scripts: &[CallScript]) -> Result<Memo, AllocError>
     ensures memo { IfOk result
         (λ memo. (ends : List Ending) → IsMemo (setting machine.now scripts.now) ends memo) }
@@ -314,8 +315,7 @@ fn memo_at(alloc: Global, machine: &Machine, scripts: &[CallScript]) -> Result<M
 }
 
 /// Returns whether walked places are worth keeping: there are several scripts, and none of them
-/// undoes steps by their serials, or works on an operation that it began before its latest one
-/// (`OwnWork::Nth`).
+/// undoes steps by their serials, or works on the operation of its n-th Begin (`OwnWork::Nth`).
 pub(crate) fn keeps_places(scripts: &[CallScript]) -> bool
     ensures { result ≡ true → AreMergeable scripts.now }
 {

@@ -12,10 +12,10 @@ use std::mem::swap;
 /// How to undo one call.
 #[derive(Drop)]
 pub(crate) enum Way {
-    /// Undo the step, down to this mark.
+    /// Undo the step of the call: all deltas from this index on.
     Mark(usize),
-    /// Restore these earlier steps, because the call may itself go back to an earlier state. Boxed,
-    /// because most calls have none.
+    /// Restore this state from before the call, kept whole because the call may itself go back to
+    /// an earlier state. Boxed, because most calls need none.
     Kept(Box<Steps>),
 }
 
@@ -27,7 +27,8 @@ pub(crate) struct Turn {
 }
 
 impl Way {
-    /// Moves to the steps `there` and keeps the earlier ones. If memory runs out, nothing changes.
+    /// Replaces `here` by `there`, and returns the way back, which keeps the former `here`. If
+    /// memory runs out, nothing changes.
     pub(crate) fn keep(alloc: Global, here: &mut Steps, there: Steps) -> Result<Way, AllocError>
         ensures there { OnOk result (here.new ≡ there) }
         ensures over { IfOk result (λ way. (r : NewRecord)
@@ -43,7 +44,7 @@ impl Way {
         }
     }
 
-    /// Restores the steps from before the call. Allocates nothing.
+    /// Restores the state and the records from before the call. Allocates nothing.
     pub(crate) fn lead_back(self, here: &mut Steps)
         requires { (old : StepsValue) × (r : NewRecord) × IsWayOver self old r here.old }
         ensures { (old : StepsValue) (r : NewRecord) → IsWayOver self old r here.old → here.new ≡ old }

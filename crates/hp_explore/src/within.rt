@@ -23,7 +23,7 @@ use std::alloc::{AllocError, Global};
 /// The wanted lines, and the most changes of processor, if there is a budget.
 #[derive(Clone, Copy, Drop)]
 struct Within<'a> {
-    /// For the marks of lines about plans.
+    /// Where the marks of lines about plans are allocated.
     alloc: Global,
     wanted: &'a [Wanted],
     budget: Option<u64>,
@@ -96,8 +96,8 @@ impl<'a> Aim for Within<'a> {
 }
 
 /// Returns the first schedule, in the order of the search, that ends as wanted with at most
-/// `budget` changes of processor; or with any number of changes, if there is no budget. Adds the
-/// places that it reaches to `places`.
+/// `budget` changes of processor; or with any number of changes, if there is no budget. Adds to
+/// `places` the number of places, after the first, from which the search goes on.
 ///
 /// # Errors
 ///
@@ -126,7 +126,8 @@ pub(crate) fn first_within<W: Watch>(
     first_sought(alloc, machine, scripts, &mut aim, watch, places)
 }
 
-/// Appends which wanted lines are met at the place. Returns whether each number fits 32 bits.
+/// Appends the number of replies to each processor, and for each wanted line 1 if the records have
+/// it so far, or 0. Returns whether each number fits 32 bits.
 fn push_met(
     alloc: Global,
     wanted: &[Wanted],
@@ -152,7 +153,8 @@ fn push_met(
     )
 }
 
-/// Appends what the ends of the plans in progress depend on, if a wanted line is about plans.
+/// If a wanted line is about plans, appends the last refusals in the plans in progress, on which
+/// the ends of these plans depend.
 fn push_plan_causes(
     wanted: &[Wanted],
     path: &Path<'_>,

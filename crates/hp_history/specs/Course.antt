@@ -17,12 +17,11 @@ pub record CourseValue : Type 0 where
   pub history : List Record
   pub state : Memory
 
--- a course without records, over a base state and after earlier records
+-- a course with no record of its own yet: it starts from `base`, after `before` earlier records
 abbrev pub started : LayoutParts → Memory → (before : ℕ) → CourseValue
 started l base before = record { layout = l; before = before; base = base; history = []; state = base }
 
--- the history is legal, and the state is what the plain machine reaches from the base by those of
--- its steps that are not undone
+-- the history is legal, and those of its steps that are not undone lead from the base to the state
 pub record IsHistory (c : CourseValue) : Type 0 where
   pub legal : IsLegal c.layout c.base c.before c.history
   pub state : c.state ≡ value_of c.layout c.base c.history
@@ -51,7 +50,7 @@ abbrev pub receipt_for : Event → ℕ × Reply → Receipt
 receipt_for event answer = record { serial = answer.0; event = event; reply = answer.1 }
 
 -- a call with a processor's event: one record is appended, with the next serial and the reply that
--- the definitions give, and the new state is that of the longer history
+-- the definitions give. The new state is that of the longer history
 pub record IsAnswered (old : CourseValue) (cpu : ℕ) (event : Event) (r : Receipt)
     (new : CourseValue) : Type 0 where
   pub serial : r.serial ≡ last_serial old + 1

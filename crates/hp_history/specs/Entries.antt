@@ -14,13 +14,13 @@ use Rattle.hp_history.specs.declared.entries.Entry.{Entry}
 
 -- ---- their steps
 
--- the mark of an entry's kind and operation
+-- the mark (what a step is to an operation) that an entry has as `kind` and `op`
 abbrev pub mark_coded : (kind op : ℕ) → Mark
 mark_coded zero op = Other
 mark_coded (suc zero) op = Opens
 mark_coded (suc (suc n)) op = Works op
 
--- the tag of an entry's step; `before` earlier records come before those since the base
+-- the tag of an entry's step: its serial and its mark; `before` records come before the base
 abbrev pub tag_in : (before : ℕ) → Entry → Tag
 tag_in before e = record { serial = before + e.code / 4 + 1; mark = mark_coded (e.code % 4) e.op }
 
@@ -63,8 +63,8 @@ abbrev pub joined : List (List Delta) → List Delta
 joined [] = []
 joined (deltas ∷ steps) = deltas ++ joined steps
 
--- the latest steps are undone: the first `keep` are left, and the deltas of the others lead from
--- the old state back to the new one, latest first, each fitting when its turn comes
+-- the latest steps are undone, and the first `keep` are left. The deltas of the undone steps lead
+-- from the old state back to the new one, latest first, each fitting when its turn comes
 pub record IsUndone (old new : CourseValue) : Type 0 where
   pub keep : ℕ
   pub entries : List (List Delta)

@@ -18,16 +18,17 @@ use Rattle.hp_history.specs.Course.{IsHistory, CourseValue, last_serial}
 use Rattle.hp_history.specs.Entries.{start_of, tags_of}
 use Rattle.hp_history.specs.declared.entries.Entry.{Entry}
 
--- a layout and a state together, as an `Image` and as a memory
+-- the value of an `Image` with this layout and state
 abbrev pub pictured : LayoutParts → Memory → Pictured
 pictured l s = record { layout = l; memory = s }
 
+-- the value of a memory in layers with this layout and state
 abbrev pub remembered : LayoutParts → Memory → MemoryValue
 remembered l s = record { layout = l; state = s }
 
--- one entry per step of the net, in its order and with its tag. From the start of a step's deltas,
--- all on the tape lead back from the net's state to the state before the step; its own are within
--- its bound
+-- one entry per step of the net (the steps that are not undone), in order, with the step's tag. The
+-- deltas on the tape from the start of a step's own on lead back from the net's state to the state
+-- before the step. A step has at most as many deltas as its bound
 pub record IsJournal (l : LayoutParts) (base : Memory) (before : ℕ) (net : List Record)
     (entries : List Entry) (deltas : List Delta) : Type 0 where
   pub tagged : tags_of before entries ≡ map tag_of net
@@ -55,15 +56,15 @@ is_gone m serial = nat_lt (last_serial m) serial || nat_lt serial m.before
 abbrev pub may_cancel : LayoutParts → Memory → (cpu op : ℕ) → Bool
 may_cancel l s cpu op = nat_lt cpu l.cpus && is_live s.blocks op
 
--- going back replies `reply` and keeps the first `keep` steps
+-- the reply to the event is `reply`, and its record cuts the net down to the first `keep` steps
 pub record IsCut (m : CourseValue) (cpu : ℕ) (event : Event) (keep : ℕ) (reply : Reply) : Type 0 where
   pub answers : reply ≡ reply_of m.layout m.base m.before m.history cpu event
   pub within : keep ≤ length (net_of m.history)
   pub cut : (r : Record) → r.event ≡ event → r.reply ≡ reply
       → net_with (net_of m.history) r ≡ take keep (net_of m.history)
 
--- the event makes a step of the plain machine, which joins the net unless it is refused or only
--- looks
+-- the event is carried out as one step of the definitions, which joins the net unless it is refused
+-- or only reads
 pub record IsStep (m : CourseValue) (cpu : ℕ) (event : Event) : Type 0 where
   pub reply : reply_of m.layout m.base m.before m.history cpu event
       ≡ (step m.layout (value_of m.layout m.base m.history) (last_serial m + 1) cpu event).reply

@@ -13,15 +13,16 @@ use Rattle.hp_history.specs.declared.volumes.Volume.{Volume}
 abbrev pub volume_of : CourseValue → Volume
 volume_of c = record { before = c.before; base = pictured c.layout c.base; records = c.history }
 
--- how many records volumes hold, and the state that they lead to from boot
+-- how many records the volumes hold
 abbrev pub records_in : List Volume → ℕ
 records_in volumes = sum_by (λ v. length v.records) volumes
 
+-- the state that the volumes lead to from boot
 abbrev pub state_after : LayoutParts → List Volume → Memory
 state_after l volumes = fold (λ s v. value_of l s v.records) (boot_memory l) volumes
 
--- a volume follows the earlier ones: it was sealed after as many records as they hold, its base is
--- the state that they lead to, and its records are a legal history over it
+-- a volume follows the earlier ones: it was sealed after as many records as they hold, and its base
+-- is the state that they lead to. Its records are a legal history over its base
 pub record FollowsVolumes (l : LayoutParts) (earlier : List Volume) (v : Volume) : Type 0 where
   pub count : v.before ≡ records_in earlier
   pub base : v.base ≡ pictured l (state_after l earlier)

@@ -199,7 +199,8 @@ impl Course {
         self.history.as_slice()
     }
 
-    /// Reserves room for `records` more records and steps, so that making them does not reallocate.
+    /// Reserves room for `records` more records and their journal entries. The tape of deltas may
+    /// still grow.
     pub fn reserve(&mut self, records: usize) -> Result<(), AllocError>
         ensures { self.new ≡ self.old }
     {

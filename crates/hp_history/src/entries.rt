@@ -159,8 +159,8 @@ pub(crate) fn between(deltas: &[Delta], start: usize, end: usize) -> &[Delta]
     &deltas[start..end]
 }
 
-/// Keeps the entry of a step, for which there is room. If there was no step, nothing changed, and
-/// the deltas that were noted are taken off the tape.
+/// Appends the entry of a step, for which there must be room. If `is_step` is false, takes the
+/// noted deltas off the tape instead; these must change nothing.
 #[inline(always)]
 pub(crate) fn keep_step(
     entries: &mut Vec<Entry>,

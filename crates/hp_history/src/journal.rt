@@ -24,7 +24,7 @@ mod steps;
 /// A memory and the journal of its steps, without records. It replies as a `Course` does; the base
 /// state and the records exist only in its proofs and take no bytes.
 ///
-/// It has no room after 2^30 records since the base, or 2^32 deltas on its tape: then every event
+/// It has no room after 2^30 records since the base, or 2^32 deltas on its tape. Then every event
 /// fails as if memory ran out, except an undo and a Cancel that restores.
 pub struct Journal {
     before: u64,
@@ -121,7 +121,7 @@ impl Journal {
     ///
     /// An undo drops steps, and so does a Cancel if only its operation's own work follows its
     /// Begin. Any other event is carried out, and leaves a step unless it is a Read or is refused.
-    /// Only these events can run out of memory; then nothing changes.
+    /// Only an event that is carried out can run out of memory; then nothing changes.
     #[inline(always)]
     pub fn answer(
         &mut self,

@@ -17,20 +17,20 @@ pub(crate) struct Remembered {
     pub(crate) ghost history: { List Record },
 }
 
-/// It takes no bytes.
+/// A `Remembered` takes no bytes.
 const _: () = prove!(size_of::<Remembered>() == 0);
 
 impl Model for Remembered {
     ghost also_owns = { λ _. ftrue };
 }
 
-// It owns nothing.
+// A `Remembered` owns nothing.
 unsafe impl Send for Remembered {}
 
 unsafe impl Sync for Remembered {}
 
 impl Remembered {
-    /// Returns a memory's state, without records since.
+    /// Returns a memory's state as the base, with no record yet.
     #[inline(always)]
     pub(crate) fn start(memory: &Memory) -> Remembered
         ensures { result ≡ record { base = memory.now.state; history = [] } }
@@ -38,7 +38,7 @@ impl Remembered {
         Remembered {}
     }
 
-    /// Returns the same with one more record.
+    /// Returns the base and the records, with one more record at the end.
     #[inline(always)]
     pub(crate) fn and(&self, serial: &Serial, cpu: &Cpu, event: &Event, reply: &Reply) -> Remembered
         ensures { result ≡ record {

@@ -62,7 +62,8 @@ impl KernelBlocks {
         }
     }
 
-    /// Returns the same in the short form of the table and of deltas.
+    /// Returns the order of the block that starts at the frame, in one byte, as the table and
+    /// deltas have it.
     fn short_at(&self, frame: Frame) -> Option<u8>
         requires { frame < length self.now }
         ensures { result ≡ slice_index_or self.now frame None }

@@ -1,4 +1,4 @@
--- How far a search for an end may go.
+-- How far a search may go.
 use Rattle.std.specs.Prelude.{◌≡◌, ℕ, ◌<◌, ◌≤◌, Option, Some}
 use Rattle.hp_lab_shell.specs.declared.budgets.Budget.{Budget}
 use Rattle.hp_lab_shell.specs.declared.budgets.Budget.TheVariants.{Memory, Seconds, States}

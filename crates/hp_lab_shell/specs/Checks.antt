@@ -14,7 +14,8 @@ abbrev pub IsCountIn : (setup : ℕ) → Result NamedValue ScenarioFault → (te
 IsCountIn setup (Ok s) text = IsCountTold s.scenario.layout.cpus setup s.scenario.lines usual_limit text
 IsCountIn setup (Err fault) text = text ≡ []
 
--- the same line; empty if all lines are the setup
+-- the line that reports how many interleavings the scripts after the setup have; empty if all lines
+-- are the setup, or if the bytes are not a scenario
 abbrev pub IsCountOf : (all : Bool) → (setup : ℕ) → (input text : List ℕ) → Type 0
 IsCountOf true setup input text = text ≡ []
 IsCountOf false setup input text = IsCountIn setup (named_in input) text
@@ -24,7 +25,8 @@ abbrev pub status_of : Result NamedValue ScenarioFault → ℕ
 status_of (Ok s) = 0
 status_of (Err fault) = 1
 
--- the report, and how many interleavings the scripts have
+-- the text ends with the line that counts the interleavings; `reported` before it may be any text.
+-- The status is that of the bytes
 pub record IsCheckOf (setup : ℕ) (input text : List ℕ) (status : ℕ) : Type 0 where
   pub reported : List ℕ
   pub counted : List ℕ

@@ -46,7 +46,7 @@ last_named (Picture drawing) = first_shown drawing.view
 last_named Log = 0
 last_named (Told form) = 0
 
--- there is a line of this number, if it is known how many there are
+-- line `asked` is one of `count` lines; true if their number is not known
 abbrev pub has_line : (asked : ℕ) → (count : Option ℕ) → Bool
 has_line asked None = true
 has_line asked (Some lines) = nat_le asked lines
@@ -60,7 +60,7 @@ abbrev pub IsPastEnd : Word → (input : List ℕ) → (asked lines : ℕ) → T
 IsPastEnd word input asked lines =
     (asked ≡ last_named word) × (count_of (named_in input) ≡ Some lines) × (lines < asked)
 
--- the fault reports that the line is past the last of these lines
+-- the fault reports that line `asked` is past the last of `count` lines
 abbrev pub IsPast : (asked : ℕ) → (count : Option ℕ) → LabProgramFault → Type 0
 IsPast asked count (PastEnd number lines) = (number ≡ asked) × (count ≡ Some lines) × (lines < asked)
 IsPast asked count fault = ⊥

@@ -19,12 +19,12 @@ InPlain input P = InScenario input (2 ^ 64 - 1) (λ s. P s.scenario)
 abbrev pub HasTrace : View → (input text : List ℕ) → Type 0
 HasTrace view input text = InPlain input (λ s. IsJoinedTraceOf view s text)
 
--- the text is these lines of JSON, in a form
+-- the text is these lines of JSON alone, or the page that steps through them
 abbrev pub IsJsonText : JsonForm → (lines text : List ℕ) → Type 0
 IsJsonText Lines lines text = text ≡ lines
 IsJsonText Page lines text = text ≡ viewer_before ++ lines ++ viewer_after
 
--- the bytes are a scenario, and the text is its trace as JSON
+-- the bytes are a scenario, and the text is its trace as JSON, in lines or in a page
 abbrev pub HasJson : JsonForm → (input text : List ℕ) → Type 0
 HasJson form input text =
     InPlain input (λ s. (lines : List ℕ) × IsJsonOf s lines × IsJsonText form lines text)

@@ -1,4 +1,4 @@
-//! How far a search for an end may go.
+//! How far a search may go, and which budget it has used up.
 ghost use Rattle.std.specs.Prelude.{◌↔◌, IfNone, IfSome, IsTrue};
 ghost use Rattle.hp_lab_shell.specs.Budgets.{HasLeft, HasReached, IsAbove, IsOver};
 

@@ -55,7 +55,8 @@ fn count_line(alloc: Global, input: &[u8], setup: u64) -> Result<String, AllocEr
     count_in(alloc, input, setup)
 }
 
-/// Returns the same line for a scenario in which not all lines are the setup.
+/// Returns the line that reports how many interleavings the scripts after the setup have, for a
+/// `setup` that is not `ALL`. The text is empty if the bytes are not a scenario.
 fn count_in(alloc: Global, input: &[u8], setup: u64) -> Result<String, AllocError>
     ensures { IfOk result (λ text. IsCountIn setup (named_in input.now) (string_bytes text)) }
 {

@@ -115,7 +115,8 @@ fn named_file<'a>(words: &ArgMatches<'a>) -> &'a str {
     }
 }
 
-/// Judges the log in an input, and writes the report or the picture to standard output.
+/// Judges the log in an input, and writes the report or the picture to standard output. Returns
+/// whether the log is lawful.
 fn judge_input<R: Read + Drop>(
     rt: &HostRuntime,
     words: &ArgMatches<'_>,
@@ -202,7 +203,7 @@ fn escaped_name(rt: &HostRuntime, file: Option<&str>) -> Option<String> {
     }
 }
 
-/// Prints on standard error why a machine has no size.
+/// Prints on standard error what is wrong with the number of frames per memory block.
 fn say_size(rt: &HostRuntime, fault: SizeFault) {
     let text = match fault {
         SizeFault::Missing => "no block_frames, and no --block-frames",

@@ -22,8 +22,8 @@ pub struct Served {
 
 /// Runs the commands of the program.
 pub trait Laboratory {
-    /// Runs a command on what the reader gives, some commands in threads, and writes its text.
-    /// `watch` gets the progress of a search.
+    /// Runs a command on the text that `reader` gives, and writes the result to `writer`. Some
+    /// commands run in threads. `watch` gets the progress of a search.
     fn serve<T: Threads + Sync, R: Source, W: Sink, P: Watch + Drop>(
         &self,
         threads: &T,
@@ -37,7 +37,8 @@ pub trait Laboratory {
         requires reader { R.failures reader.old < 2 ^ 64 - 1 }
         requires writer { W.failures writer.old < 2 ^ 64 - 1 };
 
-    /// Runs a command on a text in memory, in the same way.
+    /// Runs a command on a text in memory, and writes the result to `writer`. Some commands run in
+    /// threads. `watch` gets the progress of a search.
     fn serve_text<T: Threads + Sync, W: Sink, P: Watch + Drop>(
         &self,
         threads: &T,

@@ -6,8 +6,9 @@
 //! defaults and limits, what each needs of a scenario, and the exit status if no command is run.
 //! hp_check, hp_trace and hp_svg make the texts of `check` and `trace`, and hp_step_logs the lines
 //! of a log; this crate joins them, each with its status. hp_verdicts does all of `judge` but the
-//! command line, and hp_explain does so for `explain`. No contract covers how clap reads the
-//! command line, or what a file or a stream gives or takes: that is tested on the built program.
+//! command line, and hp_explain all of `explain` but the command line. No contract covers how clap
+//! reads the command line, or what a file or a stream gives or takes: that is tested on the built
+//! program.
 //!
 //! Read src/command.rt, src/words.rt and src/laboratory.rt first, then specs/Needs and
 //! specs/Checks.

@@ -57,7 +57,7 @@ fn scenario_name<'a>(words: &ArgMatches<'a>) -> Result<&'a str, &'static str> {
     }
 }
 
-/// Runs a scenario's lines, and replies to the lines that come after.
+/// Runs a scenario's lines, and then replies to the lines of standard input.
 fn talk_after(
     rt: &HostRuntime,
     words: &ArgMatches<'_>,

@@ -38,7 +38,7 @@ pub fn told(alloc: Global, input: &[u8], form: JsonForm) -> Result<TextAndStatus
     Ok(TextAndStatus { text, status: 0 })
 }
 
-/// Returns lines of JSON in a form.
+/// Returns lines of JSON as they are, or in a page that steps through them.
 fn json_text(alloc: Global, lines: String, form: JsonForm) -> Result<String, AllocError>
     ensures { IfOk result (λ text. IsJsonText form (string_bytes lines) (string_bytes text)) }
 {

@@ -1,4 +1,4 @@
-//! How far a search has come, on standard error, and what ends it.
+//! Shows on standard error how far a search has come, and ends the search when a budget is used up.
 ghost use Rattle.std.specs.Prelude.{◌≡◌, false};
 ghost use Rattle.hp_lab_shell.specs.Budgets.{IsUsedUp};
 

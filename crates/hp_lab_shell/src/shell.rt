@@ -145,8 +145,8 @@ fn told_status(
     }
 }
 
-/// Returns the lines that the command line wants of an end. If no end can have one of them as a
-/// line, reports that on standard error and returns `None`.
+/// Returns the lines that the command line requires of an end. If a text is not a line that an end
+/// can have, reports that on standard error and returns `None`.
 fn wanted_from(
     rt: &HostRuntime,
     matches: &ArgMatches<'_>,
@@ -254,9 +254,13 @@ fn run_words<L: Laboratory, T: Threads + Sync>(
     }
 }
 
-/// Runs the program and returns its exit status: 0; 1 after a fault, which standard error names,
-/// and if a check finds one; 2 for a wrong command line; 3 if a search does not find what was asked
-/// for, if no order explains answers, and if a log is unlawful.
+/// Runs the program and returns its exit status.
+///
+/// It is 1 after a fault, which standard error names, after a `check` that finds faults, and if the
+/// reader of standard output has gone. It is 2 for a wrong command line. It is 3 if `--find` finds
+/// nothing, if `--never` finds something, if no order explains the answers, or if such a search is
+/// stopped before it knows. It is 3 too if no end has the number of `--scenario`, if `explore`
+/// prints only the ends of the first interleavings, and if a log has faults. Otherwise it is 0.
 pub fn run_program<L: Laboratory, T: Threads + Sync>(
     rt: &HostRuntime,
     lab: &L,

@@ -34,7 +34,7 @@ pub(crate) const WIDTH: u64 = 200;
 /// Printed if there is no such subcommand. clap reports that before this program can.
 const NO_WORD: &str = "there is no such word";
 
-/// Printed if `--scenario` names an interleaving past the one that a search finds.
+/// Printed if `--scenario` is not 1 although a search finds a single interleaving.
 pub(crate) const ONE_FOUND: &str = "a search tells one interleaving: --scenario 1";
 
 /// The most threads.
@@ -72,31 +72,33 @@ pub enum JsonForm {
 /// A command on a scenario.
 #[derive(Clone, Copy)]
 pub enum Word<'a> {
-    /// Report what is wrong with it and where. This many lines are the setup; later lines are in
-    /// scripts.
+    /// Report what is wrong with the scenario, and where. This many lines are the setup; later
+    /// lines are in scripts.
     Check(u64),
-    /// Explore every interleaving of its scripts, in `jobs` threads, and group the ends by the part
-    /// `by` of their outcome.
+    /// Explore the interleavings of the scripts, at most `asked.limit` of them, in `jobs` threads.
+    /// Group the ends by the part `by` of their outcome, if it is not `None`.
     Explore {
         asked: ExploreOptions,
         form: EndsForm,
         by: Option<GroupBy>,
         jobs: u32,
     },
-    /// Search one part of these interleavings.
+    /// Search one part of the interleavings of the scripts, and count at most `asked.limit`.
     Part {
         asked: ExploreOptions,
         part: &'a ShardId,
     },
     /// Add up all parts, whose texts come in place of a scenario.
     Sum(EndsForm),
-    /// Find an interleaving whose end has each of these lines, after `setup` lines.
+    /// Find an interleaving whose end has each of the lines in `wanted`. The first `setup` lines of
+    /// the scenario run in order before it.
     Find {
         setup: u64,
         wanted: &'a [Wanted],
         form: ScheduleForm,
     },
-    /// Expect that no interleaving has an end with each of these lines, after `setup` lines.
+    /// Expect that no interleaving has an end with each of the lines in `wanted`. The first `setup`
+    /// lines of the scenario run in order before it.
     Never {
         setup: u64,
         wanted: &'a [Wanted],
@@ -127,7 +129,8 @@ pub(crate) struct Request<'m, 'a, 'w> {
     pub budgets: Budgets,
 }
 
-/// Returns the texts of the lines that `--find` or `--never` names, if there is one of these.
+/// Returns the texts of the lines that `--find` or `--never` names, if one of these options is
+/// given.
 pub(crate) fn texts_from<'m, 'a>(matches: &'m ArgMatches<'a>) -> Option<&'m [&'a str]> {
     let (_name, words) = matches.subcommand()?;
     words.get_strs(FIND).or(words.get_strs(NEVER))
@@ -142,7 +145,7 @@ pub(crate) fn is_past_the_found(matches: &ArgMatches<'_>) -> bool {
     texts_from(matches).is_some() && words.get_one::<u64>(SCENARIO).unwrap_or(1) != 1
 }
 
-/// Printed if there is no such part.
+/// Printed if the text of `--part` names no part.
 const NO_PART: &str = "--part may be I/N, with I from 1 to N, and N at most 1000000";
 
 /// Parses a part as `I/N`.
@@ -179,7 +182,7 @@ fn files_of<'m, 'a>(names: Option<&'m [&'a str]>) -> &'m [&'a str] {
 }
 
 /// Returns the request on the command line, or why it cannot be served. `wanted` has the lines that
-/// the command line wants of an end, and `part` the part that it names.
+/// the command line requires of an end, and `part` the part that it names.
 pub(crate) fn request_from<'m, 'a, 'w>(
     matches: &'m ArgMatches<'a>,
     wanted: &'w [Wanted],
@@ -277,7 +280,8 @@ fn exploring_word<'a>(
     }
 }
 
-/// Returns the command that explores every interleaving.
+/// Returns the command of `explore` that counts all interleavings up to the limit, or what is wrong
+/// with its options.
 fn whole_word<'a>(asked: ExploreOptions, words: &ArgMatches<'_>) -> Result<Word<'a>, &'static str> {
     let jobs = words.get_one::<u64>(JOBS).unwrap_or(1);
     if jobs == 0 || jobs > MOST_JOBS {

@@ -19,13 +19,13 @@ pub record IsSizeOf (l : LayoutParts) (m : MachineSize) : Type 0 where
 
 -- ---- one step, by the states before and after it
 
--- the events of a memory block
+-- the events that lead a memory block from its phase before to its phase after
 abbrev pub block_events : (before after : Memory) → Block → List LogEvent
 block_events before after block =
     phase_events block (phase_of (row_of before.blocks block)) (phase_of (row_of after.blocks block))
 
--- the piece that starts at a frame stays in use: it is the same in both states, and its block does
--- not go offline in between
+-- the piece that starts at a frame stays in use: it has the same order and mobility in both states,
+-- and its block does not go offline in between
 abbrev pub stays : LayoutParts → (before after : Memory) → Frame → Bool
 stays l before after frame =
     same_piece (piece_at before frame) (piece_at after frame)

@@ -14,7 +14,8 @@ pub data BlockPhase : Type 0 where
 
 -- ---- the phase of a row
 
--- an offline block that an operation holds is going online into the zone that the operation wishes
+-- the phase of an offline block that an operation holds, by the operation's wish for it: offline,
+-- or going online into a zone
 abbrev pub wished_phase : Wish → BlockPhase
 wished_phase OffWish = Offline
 wished_phase NormalWish = GoingOnline NormalZone
@@ -37,14 +38,14 @@ same_zone NormalZone NormalZone = true
 same_zone MovableZone MovableZone = true
 same_zone zone other = false
 
--- a block goes offline, whatever its phase
+-- the events of a block that goes offline from this phase
 abbrev pub to_offline : Block → BlockPhase → List LogEvent
 to_offline block Offline = []
 to_offline block (GoingOnline zone) = OnlineEnds block false ∷ []
 to_offline block (Online zone) = OfflineBegins block ∷ OfflineEnds block true ∷ []
 to_offline block (GoingOffline zone) = OfflineEnds block true ∷ []
 
--- an offline block goes into a phase
+-- the events of an offline block that goes into this phase
 abbrev pub from_offline : Block → BlockPhase → List LogEvent
 from_offline block Offline = []
 from_offline block (GoingOnline zone) = OnlineBegins block zone ∷ []
@@ -65,8 +66,8 @@ direct_events block (GoingOffline zone) (Online next) =
 direct_events block (GoingOffline zone) (GoingOffline next) = then_some (same_zone zone next) []
 direct_events block from to = None
 
--- a block goes from one phase to another, through offline unless there is a direct way; an undo can
--- make any of these changes in one step
+-- the events of a block that goes from one phase to another, through offline unless there is a
+-- direct way; an undo can make any of these changes in one step
 abbrev pub phase_events : Block → BlockPhase → BlockPhase → List LogEvent
 phase_events block from to =
     unwrap_or (direct_events block from to) (to_offline block from ++ from_offline block to)

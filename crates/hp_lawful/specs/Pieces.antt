@@ -32,7 +32,7 @@ abbrev pub is_frame_of : (frame first : Frame) → Option Piece → Bool
 is_frame_of frame first None = false
 is_frame_of frame first (Some piece) = lies_within first (2 ^ piece.order) frame
 
--- both have the same number of frames, and both or neither can move
+-- there are two pieces, both have the same number of frames, and both or neither can move
 abbrev pub same_piece : Option Piece → Option Piece → Bool
 same_piece (Some piece) (Some next) =
     piece.order == next.order && (if piece.movable then next.movable else not next.movable)

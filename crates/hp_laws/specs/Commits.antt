@@ -6,7 +6,7 @@ use Rattle.hp_units.specs.FreeAreas.{is_on}
 use Rattle.hp_units.specs.Rows.{is_going, zone_of_block}
 use Rattle.hp_units.specs.declared.rows.Zone.{Zone}
 
--- one of the `count` numbers from `from` on
+-- `x` is one of the `count` numbers from `from` on
 pub record IsInRange (from count x : ℕ) : Type 0 where
   pub low : from ≤ x
   pub high : x < from + count

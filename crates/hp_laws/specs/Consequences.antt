@@ -26,12 +26,13 @@ pub record IsGoingFor (l : LayoutParts) (s : Memory) (op frame : ℕ) : Type 0 w
   pub claimed : is_claimed_by op (row_of s.blocks (block_of l frame)) ≡ true
   pub going : is_going (row_of s.blocks (block_of l frame)) ≡ true
 
--- the frame is in such a block and in use: it is in no free block
+-- the frame is in use, that is in no free block, and in a block that the operation is taking
+-- offline
 pub record IsFrameInUse (l : LayoutParts) (s : Memory) (op frame : ℕ) : Type 0 where
   pub going : IsGoingFor l s op frame
   pub not_free : IsInFreeBlock s.free.areas frame → ⊥
 
--- the frame is the lowest of these
+-- the frame is the lowest in use in the blocks that the operation is taking offline
 pub record IsLowestInUse (l : LayoutParts) (s : Memory) (op frame : ℕ) : Type 0 where
   pub here : IsFrameInUse l s op frame
   pub lowest : (other : ℕ) → IsFrameInUse l s op other → frame ≤ other

@@ -30,10 +30,11 @@ pub record IsUndisturbed (l : LayoutParts) (s : Memory) (op : ℕ) (net : List R
   pub drained : (cpu : ℕ) → cpu < l.cpus → list_any (λ r. drains_for op cpu r.event) work ≡ true
   pub moved : (frame : ℕ) → IsGoingFor l s op frame → page_at s.pages frame ≡ None
 
--- the number of the operation that holds a block, if any, has the property; and so for all blocks
+-- the number of the operation that holds a block, if there is one, has the property
 abbrev pub IsHeldBy : (ℕ → Type 0) → Row → Type 0
 IsHeldBy IsNumber row = IfSome row.claim (λ claim. IsNumber claim.op)
 
+-- the number of each operation that holds a block has the property
 abbrev pub AreHeldBy : (ℕ → Type 0) → Blocks → Type 0
 AreHeldBy IsNumber blocks = AllByRecursion (IsHeldBy IsNumber) blocks.rows
 

@@ -29,10 +29,11 @@ ends op event = false
 abbrev pub IsOpenBehind : (op place : ℕ) → List Record → Type 0
 IsOpenBehind op place steps = AllByRecursion (λ r. ends op r.event ≡ false) (drop (suc place) steps)
 
--- the states just before a record of a history, and just after it
+-- the state just before a record of a history
 abbrev pub state_before : LayoutParts → Memory → ℕ → List Record → Record → Memory
 state_before l base before h r = value_of l base (take (r.serial - before - 1) h)
 
+-- the state just after a record of a history
 abbrev pub state_behind : LayoutParts → Memory → ℕ → List Record → Record → Memory
 state_behind l base before h r = value_of l base (take (r.serial - before) h)
 

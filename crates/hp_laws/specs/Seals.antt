@@ -12,7 +12,7 @@ AreLegal l base before [] = Unit {0}
 AreLegal l base before (h ∷ later) =
     IsLegal l base before h × AreLegal l (value_of l base h) (before + length h) later
 
--- the state that they lead to, one after another
+-- the state that the histories lead to from a base state, one after another
 abbrev pub value_of_all : LayoutParts → Memory → List (List Record) → Memory
 value_of_all l base histories = fold (λ s h. value_of l s h) base histories
 
@@ -21,16 +21,18 @@ abbrev pub net_of_all : List (List Record) → List Record
 net_of_all [] = []
 net_of_all (h ∷ later) = net_of h ++ net_of_all later
 
--- the state after `count` of their records; a seal is no record and changes no state
+-- the state after the first `count` records of the histories; a seal is no record and changes no
+-- state
 abbrev pub state_at : LayoutParts → Memory → List (List Record) → ℕ → Memory
 state_at l base [] count = base
 state_at l base (h ∷ later) count =
     if nat_lt count (length h) then value_of l base (take count h)
     else state_at l (value_of l base h) later (count - length h)
 
--- the states just before a record of one of them, and just after it
+-- the state just before a record of one of the histories
 abbrev pub state_just_before : LayoutParts → Memory → ℕ → List (List Record) → Record → Memory
 state_just_before l base before histories r = state_at l base histories (r.serial - before - 1)
 
+-- the state just after a record of one of the histories
 abbrev pub state_just_after : LayoutParts → Memory → ℕ → List (List Record) → Record → Memory
 state_just_after l base before histories r = state_at l base histories (r.serial - before)

@@ -10,9 +10,9 @@ ghost use Rattle.hp_units.specs.Rows.{is_going};
 ghost use Rattle.hp_units.specs.declared.replies.Record.{Record};
 ghost use Rattle.hp_units.specs.declared.replies.Reply.TheVariants.{Moved};
 
-/// A frame that a record hands out is in no block that was offline or absent just before it,
-/// whether it goes to the kernel, to a newly mapped page or to a page that moves. A frame to which
-/// a page moves is in no block that was going.
+/// A frame that a record hands out is in no block that was offline or absent just before the
+/// record. This holds whether the frame goes to the kernel, to a newly mapped page or to a page
+/// that moves. A frame to which a page moves is in no block that was going.
 pub fn handed_frames_are_plugged()
     ensures plugged { (l : LayoutParts) (base : Memory) (before : ℕ) (h : List Record) (r : Record)
         (frame : ℕ)

@@ -29,8 +29,8 @@ pub fn restored_state()
         × (value_of l base (h ++ r ∷ []) ≡ value_of l base (take (op - before - 1) h)) }
 {}
 
-/// For each prefix of the steps, some undo keeps just that prefix. The state after the prefix is
-/// the one just before the next step.
+/// For each prefix of the steps that are not undone, some undo keeps just that prefix. The state
+/// after the prefix is the one just before the next step.
 pub fn earlier_states()
     ensures prefix { (l : LayoutParts) (base : Memory) (before k : ℕ) (h : List Record)
         → IsLegal l base before h

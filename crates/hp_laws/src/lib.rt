@@ -1,7 +1,7 @@
-//! Laws of the definitions, over all histories: what an undo and a restoring Cancel leave, how each
-//! earlier state is reached, that each frame stays in one place and what follows from it, what the
-//! pages hold, which frames are handed out, how operations proceed, also across seals, and that an
-//! undisturbed offline commits.
+//! Laws of the definitions, over all histories: what an undo and a restoring Cancel leave, and how
+//! each earlier state is reached. Each frame stays in one place, with what follows from that. Other
+//! laws say what the pages hold, which frames are handed out, how operations proceed, also across
+//! seals, and that an undisturbed offline commits.
 //!
 //! Read `placement` and `laws` first.
 #![tactic(auto)]

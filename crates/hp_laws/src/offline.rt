@@ -35,9 +35,9 @@ pub fn undisturbed_offline_commits()
         → r.reply ≡ Done }
 {}
 
-/// The operations that hold blocks after a legal history have numbers up to that of its last
-/// record, if those of its base state have numbers up to that of the last record before it. So no
-/// greater number is in use, and none is at boot.
+/// Each operation that holds a block after a legal history has a number up to that of the history's
+/// last record. This needs that operations in the base state have numbers up to that of the last
+/// record before it. So no greater number is in use, and none is at boot.
 pub fn operations_are_numbered()
     ensures boot { (l : LayoutParts) → AreClaimedUpTo 0 (boot_memory l).blocks }
     ensures history { (l : LayoutParts) (base : Memory) (before : ℕ) (h : List Record)

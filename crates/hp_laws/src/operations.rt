@@ -48,7 +48,8 @@ pub fn commits_grant_wishes()
 {}
 
 /// A Cancel that is not refused gives each block of its operation's plan the row that it had just
-/// before the Begin, whether the Cancel restores or releases (Linux, memory hotplug: undo_isolate).
+/// before the Begin. This holds whether the Cancel restores or releases (Linux, memory hotplug:
+/// undo_isolate).
 pub fn cancels_give_rows_back()
     ensures { (l : LayoutParts) (base : Memory) (before : ℕ) (h : List Record) (r : Record) (place : ℕ)
         (b : Record) (plan : List Item)

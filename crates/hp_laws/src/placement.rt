@@ -45,7 +45,7 @@ pub fn histories_keep_placement()
 {}
 
 /// In a well placed state a free frame, in the areas or on a processor's list, holds no page and is
-/// not in use by the kernel. A frame of an offline or absent block is in no other place.
+/// not in use by the kernel. A frame of an offline or absent block is in none of these four places.
 pub fn free_frames_are_not_in_use()
     ensures free { (l : LayoutParts) (s : Memory) (frame : ℕ) → IsWellPlaced l s
         → 1 ≤ free_places s.free.areas frame + cached_places s.free frame
@@ -56,9 +56,9 @@ pub fn free_frames_are_not_in_use()
         + kernel_places s frame ≡ 0 }
 {}
 
-/// A migration gives the page at its old frame the new one, and leaves each other page where it is.
-/// It changes no word of any page, so the words follow the table (Linux, memory hotplug:
-/// migration).
+/// A migration moves the page at the old frame of its reply to the new one, and leaves each other
+/// page where it is. It changes no word of any page, so the words follow the table (Linux, memory
+/// hotplug: migration).
 pub fn migrations_move_no_word()
     ensures words { (l : LayoutParts) (s : Memory) (serial cpu op : ℕ)
         → (step l s serial cpu (Migrate op)).memory.pages.contents ≡ s.pages.contents }

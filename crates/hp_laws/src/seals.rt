@@ -49,8 +49,8 @@ pub fn commits_grant_across_seals()
 {}
 
 /// A Cancel that is not refused gives each block of its operation's plan the row that it had just
-/// before the Begin, whether the Cancel restores or releases, and in whichever history the
-/// operation began (Linux, memory hotplug: undo_isolate).
+/// before the Begin. This holds whether the Cancel restores or releases, and in whichever history
+/// the operation began (Linux, memory hotplug: undo_isolate).
 pub fn cancels_give_back_across_seals()
     ensures { (l : LayoutParts) (base : Memory) (before : ℕ) (hs : List (List Record)) (h : List Record)
         (r : Record) (place : ℕ) (b : Record) (plan : List Item)

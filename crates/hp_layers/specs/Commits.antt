@@ -8,11 +8,11 @@ use Rattle.hp_units.specs.Memory.{FreeAreas, Memory, row_of}
 use Rattle.hp_units.specs.Refusals.{is_all_free, is_free_start, is_in_free_block}
 use Rattle.hp_units.specs.Rows.{is_going}
 
--- a going block must be all free; any other block is ready as it is
+-- a commit can give the block its wish: a going block must be all free, any other is ready as it is
 abbrev pub is_ready : LayoutParts → Memory → (block : ℕ) → Bool
 is_ready l s block = if is_going (row_of s.blocks block) then is_all_free l s block else true
 
--- the frames of a going block
+-- the frames of a block if it is going, otherwise none
 abbrev pub leaving_frames : LayoutParts → Memory → (block : ℕ) → List ℕ
 leaving_frames l s block = if is_going (row_of s.blocks block) then frames_of_block l block else []
 
@@ -20,7 +20,8 @@ leaving_frames l s block = if is_going (row_of s.blocks block) then frames_of_bl
 abbrev pub is_in_use : LayoutParts → Memory → (frame : ℕ) → Bool
 is_in_use l s frame = not (is_in_free_block l s.free.areas frame)
 
--- some block is not ready, and the frame is the lowest in use in the going blocks
+-- some block is not ready; the frame is the first in use in the going blocks, in the order of
+-- `blocks`, or 0 if none is in use
 abbrev pub IsHeldBy : LayoutParts → Memory → (blocks : List ℕ) → (frame : ℕ) → Type 0
 IsHeldBy l s blocks frame =
     (list_all (is_ready l s) blocks ≡ false)

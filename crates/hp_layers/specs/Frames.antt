@@ -23,32 +23,37 @@ free_of f = frames_of f.buddy.areas f.cpus
 abbrev pub places_of : Frames → ℕ → ℕ
 places_of f frame = places_among f.buddy.areas f.cpus frame
 
--- both layers are of one layout, and no frame is in two of their places
+-- the free areas and the processors' lists are of one layout, and no frame is in two of their free
+-- blocks and lists
 abbrev pub IsTidy : Frames → Type 0
 IsTidy f = AreTogether f.cpus f.buddy
 
 -- ---- how many deltas a call may note in this state
 
--- a frame for the kernel, and one for a page: one delta if the processor's first list has a frame
+-- for taking a frame for the kernel: 1 if the processor's list for unmovable frames is not empty,
+-- otherwise `batch_bound`
 abbrev pub kernel_frame_bound : LayoutParts → FreeFrames → (cpu : ℕ) → ℕ
 kernel_frame_bound l fs cpu = take_one_bound l fs cpu NuPool
 
+-- for taking a frame for a page: 1 if the processor's list for zone Movable is not empty, otherwise
+-- `batch_bound`
 abbrev pub page_frame_bound : LayoutParts → FreeFrames → (cpu : ℕ) → ℕ
 page_frame_bound l fs cpu = take_one_bound l fs cpu MmPool
 
--- a block for the kernel
+-- for taking a block for the kernel
 abbrev pub kernel_block_bound : LayoutParts → FreeFrames → (cpu order : ℕ) → ℕ
 kernel_block_bound l fs cpu zero = kernel_frame_bound l fs cpu
 kernel_block_bound l fs cpu (suc below) = steal_bound l
 
 -- ---- what taking a block does
 
--- a movable frame of zone Normal: from the list, otherwise stolen
+-- a movable frame of zone Normal: from the processor's list, otherwise stolen from unmovable blocks
 abbrev pub normal_frame : LayoutParts → FreeFrames → ℕ → Option Handed
 normal_frame l fs cpu =
     option_or (take_one l fs cpu NmPool) (handed_from fs (steal_block l fs.areas Movable 0))
 
--- the returned frame and the free frames are those of the rule
+-- the returned frame and the new free frames are those of the first argument; if that is None, no
+-- frame is returned and nothing changed
 abbrev pub HandsOut : Option Handed → (old new : FreeFrames) → Option ℕ → Type 0
 HandsOut None old new answer = (answer ≡ None) × (new ≡ old)
 HandsOut (Some handed) old new answer = (answer ≡ Some handed.frame) × (new ≡ handed.free)
@@ -58,7 +63,8 @@ pub record HasLeft (old new : Frames) (order first : ℕ) : Type 0 where
   pub within : first + 2 ^ order ≤ frame_count old.cpus.layout
   pub places : (other : ℕ) → places_of old other ≡ places_of new other + covered other order first
 
--- a block was handed out by the rule; or none was, and nothing changed
+-- the block that `wanted` has was taken, and at most `most` deltas were noted; if `wanted` is None,
+-- nothing changed
 pub record IsTaken (wanted : Option Handed) (order most : ℕ) (old new : Frames) (was now : TapeValue)
     (answer : Option ℕ) : Type 0 where
   pub handed : HandsOut wanted (free_of old) (free_of new) answer
@@ -78,7 +84,8 @@ pub record MayReturn (f : Frames) (order first : ℕ) : Type 0 where
   pub within : first + 2 ^ order ≤ frame_count f.cpus.layout
   pub nowhere : (other : ℕ) → first ≤ other → other < first + 2 ^ order → places_of f other ≡ 0
 
--- a single frame to the processor's list, any other block straight to the areas
+-- the free frames after a block is given back. A single frame goes to the processor's list if its
+-- pageblock is not isolated; all else goes straight to the free areas
 abbrev pub given_back : LayoutParts → FreeFrames → ℕ → Zone → (frame order : ℕ) → FreeFrames
 given_back l fs cpu zone frame zero = put_one l fs cpu zone frame
 given_back l fs cpu zone frame (suc below) =
@@ -89,7 +96,7 @@ abbrev pub give_back_bound : LayoutParts → FreeFrames → (cpu : ℕ) → Zone
 give_back_bound l fs cpu zone frame zero = put_one_bound l fs cpu zone frame
 give_back_bound l fs cpu zone frame (suc below) = give_bound l
 
--- a block was given back by the rule
+-- the free frames are now those of `wanted`, and at most `most` deltas were noted
 pub record IsGiven (wanted : FreeFrames) (most : ℕ) (old new : Frames) (was now : TapeValue) : Type 0 where
   pub given : free_of new ≡ wanted
   pub layout : new.cpus.layout ≡ old.cpus.layout

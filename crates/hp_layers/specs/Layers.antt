@@ -18,7 +18,7 @@ use Rattle.hp_layers.specs.Frames.{free_of}
 
 -- ---- the state in the layers
 
--- the frame view of the layers
+-- the frame view of the layers: their state, with words stored by frame
 abbrev pub view_of : Layers → FrameView
 view_of m =
     record { free = free_of m.frames; pages = m.pages.pages; kernel = m.kernel; blocks = m.blocks.blocks }
@@ -53,15 +53,17 @@ pub record AreLedTo (old : Layers) (s : Memory) (new : Layers) : Type 0 where
   pub layout : new.layout ≡ old.layout
   pub view : view_of new ≡ frame_view_of old.layout s
 
--- any delta
+-- holds for every delta
 abbrev pub IsOfMemory : Delta → Type 0
 IsOfMemory delta = Unit {0}
 
--- a call on all layers notes at most `most` deltas, and they lead back
+-- a call on all layers notes at most `most` deltas; undoing them, latest first, leads from `later`
+-- back to `earlier`
 abbrev pub NotesView : LayoutParts → ℕ → (was now : TapeValue) → (later earlier : FrameView) → Type 0
 NotesView l most was now later earlier = Notes IsOfMemory Fits undo l most was now later earlier
 
--- a step's deltas come after those on the tape: at most `most`, of the layout, and they lead back
+-- a step appends at most `most` deltas to the tape, all of the layout; undoing them, latest first,
+-- leads from `later` back to `earlier`
 pub record AreNoted (l : LayoutParts) (most : ℕ) (was now : List Delta)
     (later earlier : FrameView) : Type 0 where
   pub deltas : List Delta

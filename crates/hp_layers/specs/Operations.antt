@@ -26,10 +26,11 @@ IsHeldByNone plan bs block = IfSome (wish_of plan block) (λ wish. (row_of bs bl
 abbrev pub AreHeldByNone : List Item → Blocks → Type 0
 AreHeldByNone plan bs = (block : ℕ) → IsHeldByNone plan bs block
 
--- 1 if the plan has a wish for the block, otherwise 0; and how many blocks below a limit have one
+-- 1 if the plan has a wish for the block, otherwise 0
 abbrev pub claimed_at : List Item → ℕ → ℕ
 claimed_at plan block = if is_some (wish_of plan block) then 1 else 0
 
+-- how many blocks with numbers below this one have a wish in the plan
 abbrev pub claimed_below : List Item → ℕ → ℕ
 claimed_below plan zero = 0
 claimed_below plan (suc block) = claimed_below plan block + claimed_at plan block

@@ -74,8 +74,8 @@ impl Frames {
         }
     }
 
-    /// Takes a block for the kernel: from the processor's list if the order is 0, otherwise
-    /// straight from the areas.
+    /// Takes a block for the kernel. A block of order 0 comes from the processor's list, any other
+    /// straight from the free areas. If there is none, steals a movable block.
     pub(crate) fn kernel_block(&mut self, cpu: Cpu, order: Order, tape: &mut Tape) -> Option<Frame>
         requires cpu { cpu < self.old.cpus.layout.cpus }
         requires order { order ≤ self.old.cpus.layout.order }
@@ -96,7 +96,8 @@ impl Frames {
         }
     }
 
-    /// Takes a frame for the kernel: from the processor's list, otherwise a stolen one.
+    /// Takes a frame for the kernel: from the processor's list, otherwise stolen from a movable
+    /// block.
     fn kernel_frame(&mut self, cpu: Cpu, tape: &mut Tape) -> Option<Frame>
         requires cpu { cpu < self.old.cpus.layout.cpus }
         requires layout { IsLayout self.old.cpus.layout }
@@ -112,7 +113,8 @@ impl Frames {
         }
     }
 
-    /// Takes a frame for an owner's page: from the processor's lists, otherwise a stolen one.
+    /// Takes a frame for an owner's page: from the processor's lists, otherwise stolen from an
+    /// unmovable block.
     pub(crate) fn page_frame(&mut self, cpu: Cpu, tape: &mut Tape) -> Option<Frame>
         requires cpu { cpu < self.old.cpus.layout.cpus }
         requires layout { IsLayout self.old.cpus.layout }
@@ -128,7 +130,8 @@ impl Frames {
         }
     }
 
-    /// Takes a movable frame of zone Normal: from the processor's list, otherwise a stolen one.
+    /// Takes a movable frame of zone Normal: from the processor's list, otherwise stolen from an
+    /// unmovable block.
     fn normal_frame(&mut self, cpu: Cpu, tape: &mut Tape) -> Option<Frame>
         requires cpu { cpu < self.old.cpus.layout.cpus }
         requires layout { IsLayout self.old.cpus.layout }
@@ -144,7 +147,8 @@ impl Frames {
         }
     }
 
-    /// Takes a frame for a page to move to: straight from the areas, otherwise a stolen one.
+    /// Takes a frame for a page to move to, past the processors' lists: of zone Movable, otherwise
+    /// a movable one of zone Normal, otherwise stolen from an unmovable block.
     pub(crate) fn migration_target(&mut self, tape: &mut Tape) -> Option<Frame>
         requires tidy { IsTidy self.old }
         requires room { HasRoom tape.old (steal_bound self.old.cpus.layout) }
@@ -201,8 +205,8 @@ impl Frames {
         }
     }
 
-    /// Gives a block back: a single frame to the processor's list, any other block straight to the
-    /// areas.
+    /// Gives a block back. A single frame goes to the processor's list, unless its pageblock is
+    /// isolated. Any other block goes straight to the free areas.
     pub(crate) fn give_back(
         &mut self,
         cpu: Cpu,
@@ -365,7 +369,7 @@ impl Frames {
         self.buddy.take(class, order, tape)
     }
 
-    /// Steals a block from the other mobility.
+    /// Steals a block of zone Normal from the mobility that is not `wanted`.
     fn steal(&mut self, wanted: Mobility, order: Order, tape: &mut Tape) -> Option<Frame>
         requires order { order ≤ self.old.cpus.layout.order }
         requires tidy { IsTidy self.old }

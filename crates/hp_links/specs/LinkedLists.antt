@@ -10,7 +10,7 @@ pub record LinkedLists : Type 0 where
 abbrev pub list_at : LinkedLists → ℕ → List ℕ
 list_at links list = slice_index_or links.lists list []
 
--- the same lists, except this one
+-- all lists, with the frames of one list replaced
 abbrev pub with_list : LinkedLists → ℕ → List ℕ → LinkedLists
 with_list links list frames = record links { lists = slice_set links.lists list frames }
 
@@ -69,7 +69,8 @@ with_behind (Some after) frame [] = []
 with_behind (Some after) frame (x ∷ xs) =
     cond (x == after) (x ∷ frame ∷ xs) (x ∷ with_behind (Some after) frame xs)
 
--- each frame is on at most one list, and only once there
+-- each frame is on at most one list, and only once there; all frames on lists are below
+-- `frame_count`
 pub record IsApart (links : LinkedLists) : Type 0 where
   pub in_range : (list frame : ℕ) → IsOn links list frame → frame < links.frame_count
   pub one_list : (list other frame : ℕ) → IsOn links list frame → IsOn links other frame → list ≡ other

@@ -1,5 +1,5 @@
 -- Lines that are run for the numbers of their results run as `serial` runs them.
-use Rattle.std.proofs.Common.{◌≡◌, ◌⊎◌, ◌∙◌, ℕ, ◌+◌, true, false, List, [], ◌∷◌, ◌++◌, Option, Some, None, drop, refl, sym, ap, inl, inr}
+use Rattle.std.proofs.Common.{◌≡◌, ◌∙◌, ℕ, ◌+◌, true, false, List, [], ◌∷◌, ◌++◌, Option, Some, None, drop, sym, ap, inl, inr}
 use Rattle.hp_units.specs.Driver.{Ends}
 use Rattle.hp_units.specs.declared.events.Event.{Event}
 use Rattle.hp_units.specs.declared.plans.Item.{Item}
@@ -18,13 +18,13 @@ use Rattle.hp_commands.specs.Events.{machine_after_event}
 use Rattle.hp_commands.specs.Plans.{PlanRun, plan_run}
 use Rattle.hp_commands.specs.Serial.{machine_after, machine_after_asked, machine_after_lines}
 use Rattle.hp_commands.proofs.PlansDue.{IsNotOutOfMemory, run_due}
-use Rattle.hp_live.specs.Results.{asked_number, event_number, line_number}
+use Rattle.hp_live.specs.Results.{asked_number, line_number}
 use Rattle.hp_live.proofs.Called.{due_when_full, due_with_room, machine_of}
 
 -- ---- one line
 
 event_as_serial : (m next : MachineValue) (cpu : ℕ) (e : Event) (number : ℕ) → RunsEvent m cpu e next number
-    → (next ≡ machine_after_event m cpu e) × (number ≡ event_number m cpu e)
+    → (next ≡ machine_after_event m cpu e) × (number ≡ asked_number m cpu (asks.event e))
 event_as_serial m next cpu e number (inl h) = (h.1 ∙ sym (due_when_full m cpu e h.0).1, rw h.0 h.2)
 event_as_serial m next cpu e number (inr h) =
     let is = h.3

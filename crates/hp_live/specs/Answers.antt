@@ -50,7 +50,8 @@ told d calls = record { text = did_text d; calls = calls; did = d }
 
 -- ---- the parts of an answer
 
--- either the event left a record with this serial and this reply, or it left none for this reason
+-- either the event left a record, and `d` has its serial and its reply; or it left none, the
+-- machine is the same, and `d` has the reason
 abbrev pub IsEventTold : MachineValue → (cpu : ℕ) → Event → Did → (new : MachineValue) → Type 0
 IsEventTold m cpu event d new =
     ((serial : ℕ) × (reply : Reply) × (d ≡ did.Event serial reply)
@@ -100,7 +101,7 @@ IsPlanKept m cpu turns items end a new =
     (run : IsPlanRun m cpu turns items end new)
     × (a ≡ record { text = []; calls = run.receipts; did = did.NoLine })
 
--- the plan ended before its first call, for this reason
+-- the plan ended before its first call, and `end` has the reason
 abbrev pub IsLeft : MachineValue → OpEnd → Type 0
 IsLeft m end = (fault : CallFault) × HasCause (Some fault) m × (end ≡ Left None fault)
 

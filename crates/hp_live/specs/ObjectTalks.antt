@@ -1,4 +1,5 @@
--- A session that replies in JSON objects; clauses see the session and the states that it shows.
+-- A session that replies in JSON objects. In contracts it is a session, and the states that it
+-- shows.
 use Rattle.hp_live.specs.Talks.{ObjectsValue}
 use Rattle.hp_live.specs.declared.object_talk.ObjectTalk.{ObjectTalk}
 

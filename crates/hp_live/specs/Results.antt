@@ -3,7 +3,7 @@ use Rattle.std.specs.Prelude.{◌≡◌, ◌⊎◌, ℕ, List, length, Option, S
 use Rattle.std.specs.Map.{lookup}
 use Rattle.std.specs.Str.{bytes_eq}
 use Rattle.hp_units.specs.declared.events.Event.{Event}
-use Rattle.hp_units.specs.declared.replies.Record.{Record}
+use Rattle.hp_units.specs.declared.replies.Reply.{Reply}
 use Rattle.hp_machine.specs.Machine.{MachineValue, is_full}
 use Rattle.hp_commands.specs.Events.{next_record}
 use Rattle.hp_names.specs.Bindings.{Bound, bound_to}
@@ -19,64 +19,75 @@ use Rattle.hp_live.specs.declared.answers.Did.TheVariants as did
 
 -- ---- a text
 
--- a line with plain numbers and the owners' names after it, and the name of its result
+-- a line with plain numbers, the owners' names after it, and the name that it gives its result, if
+-- any
 pub record Typed : Type 0 where
   pub numbered : Numbered
   pub naming : Option Naming
 
+-- the line with the name of its result, if there is a line
 abbrev pub typed_of : PlainLine → Option Numbered → Option Typed
 typed_of plain n = option_map (λ n. record { numbered = n; naming = plain.naming }) n
 
+-- the line in a text without names for results, after these owners' names, with the name of its result
 abbrev pub typed_by : (names : List (List ℕ)) → PlainLine → Option Typed
 typed_by names plain = typed_of plain (line_in names plain.text)
 
--- the line in a text, after these owners' names and these results
+-- the line in a text, if it is one. `names` are the owners so far, and `bound` are the results that
+-- have names
 abbrev pub typed_in : (names : List (List ℕ)) → Bound → (text : List ℕ) → Option Typed
 typed_in names bound text = typed_by names (plain_in bound text)
 
 -- ---- the number of a result
 
--- the number of the result of an event that did this
-abbrev pub number_did : Event → Did → ℕ
-number_did e (did.Event serial reply) = result_number e serial reply
-number_did e d = missing_number e
+-- the number of the result of an event; `left` has the serial and the reply of the record that it left,
+-- if it left one
+abbrev pub event_result : Event → Option (ℕ × Reply) → ℕ
+event_result e None = missing_number e
+event_result e (Some left) = result_number e left.0 left.1
 
--- the number of the result of a line that did this; 0 if the line calls no event
+-- the number of the result of a line; 0 if the line calls no event
+abbrev pub number_of : asks.Meaning → Option (ℕ × Reply) → ℕ
+number_of (asks.event e) left = event_result e left
+number_of m left = 0
+
+-- the serial and the reply of the record that a line's event left, if it left one, by what the line did
+abbrev pub left_by : Did → Option (ℕ × Reply)
+left_by (did.Event serial reply) = Some (serial, reply)
+left_by d = None
+
+-- the number of the result of a line whose effect is `d`; 0 if the line calls no event
 abbrev pub number_asked : asks.Meaning → Did → ℕ
-number_asked (asks.event e) d = number_did e d
-number_asked m d = 0
+number_asked m d = number_of m (left_by d)
 
--- the number of the result of an event, by the record that it left, if it left one
-abbrev pub number_record : Event → Option Record → ℕ
-number_record e None = missing_number e
-number_record e (Some r) = result_number e r.serial r.reply
+-- the serial and the reply of the record that a machine has after `before` others, if it has one
+abbrev pub left_in : MachineValue → (before : ℕ) → Option (ℕ × Reply)
+left_in m before = option_map (λ r. (r.serial, r.reply)) (slice_get m.history before)
 
--- the number of the result of a line, by the record that the machine has after `before` others
-abbrev pub number_after : asks.Meaning → (before : ℕ) → (after : MachineValue) → ℕ
-number_after (asks.event e) before after = number_record e (slice_get after.history before)
-number_after m before after = 0
-
--- the number of the result of a line, by the machines before and after it
+-- the number of the result of a line, by the machines before and after it; 0 if the line calls no
+-- event
 abbrev pub number_left : asks.Meaning → (before after : MachineValue) → ℕ
-number_left m before after = number_after m (length before.history) after
+number_left m before after = number_of m (left_in after (length before.history))
 
--- the number of the result of an event or a line that `serial` runs on this machine
-abbrev pub event_number : MachineValue → (cpu : ℕ) → Event → ℕ
-event_number m cpu e =
-    if is_full m then missing_number e
-    else result_number e (next_record m cpu e).serial (next_record m cpu e).reply
+-- the serial and the reply of the record that a line's event leaves when `serial` calls it on this
+-- machine, if it leaves one
+abbrev pub left_next : MachineValue → (cpu : ℕ) → asks.Meaning → Option (ℕ × Reply)
+left_next m cpu (asks.event e) =
+    if is_full m then None else Some ((next_record m cpu e).serial, (next_record m cpu e).reply)
+left_next m cpu meaning = None
 
+-- the number of the result of what a line asks for, when `serial` does it on this machine
 abbrev pub asked_number : MachineValue → (cpu : ℕ) → asks.Meaning → ℕ
-asked_number m cpu (asks.event e) = event_number m cpu e
-asked_number m cpu meaning = 0
+asked_number m cpu meaning = number_of meaning (left_next m cpu meaning)
 
+-- the number of the result of a line that `serial` runs on this machine
 abbrev pub line_number : MachineValue → Line → ℕ
 line_number m line = asked_number m line.cpu (asks.asked_by line.work)
 
 -- ---- when memory runs out
 
--- the result of a line has its name; or no result has this name, because there was no memory for a new
--- name
+-- the bindings after a line. Without a naming they stay. Otherwise the result has the name; or
+-- there was no memory for a new name, and no result has it
 abbrev pub IsKnown : Bound → Option Naming → (line number : ℕ) → (new : Bound) → Type 0
 IsKnown old None line number new = new ≡ old
 IsKnown old (Some naming) line number new =

@@ -30,7 +30,7 @@ pub record RowsSession : Type 0 where
   pub trace : LiveValue
   pub text : List ℕ
 
--- the view of the lines that come after a scenario's
+-- the view (the rows that are shown, and how) of all lines after those of a scenario
 abbrev pub later_view : ScenarioValue → (width : ℕ) → (orders : Bool) → View
 later_view s width orders =
     record { from = length s.lines + 1; to = 2 ^ 64 - 1; every = 1; width = width; orders = orders }
@@ -119,7 +119,7 @@ RepliesRows s line reply new =
 
 -- ---- the rows in replies
 
--- a reply, with its rows: either all of it, if a line was run, or none
+-- a reply, and the rows in it: either the whole reply, or none
 abbrev pub HasRows : List ℕ × List ℕ → Type 0
 HasRows pair = (pair.1 ≡ pair.0) ⊎ (pair.1 ≡ [])
 

@@ -60,7 +60,7 @@ pub record IsResumed (s : NamedValue) (new : SessionValue) : Type 0 where
 
 -- ---- one text
 
--- the answer to a text, whose line is given if it is one. A text that is not a line gets an empty
+-- the answer to a text, given the line in it. None is a text that is not a line: it gets an empty
 -- answer, and changes nothing
 abbrev pub AnswersRead : SessionValue → Option Typed → AnswerValue → (new : SessionValue) → Type 0
 AnswersRead s None a new = (a ≡ untold) × (new ≡ s)

@@ -178,7 +178,7 @@ IsObjectOf number a reply =
     × ((reply ≡ front ++ object_end) ⊎ ((keys : List ℕ) × HasKeys front keys reply))
 
 -- a reply, and the text of `hotplug serial` in it. This is the answer's text, or empty if no line
--- was run. If the reply was lost, it may be any text
+-- was run. If the reply only reports that memory ran out, it may be any text
 abbrev pub HasText : List ℕ × List ℕ → Type 0
 HasText pair =
     ((number : ℕ) × (a : AnswerValue) × (pair.1 ≡ a.text) × IsObjectOf number a pair.0)

@@ -1,6 +1,7 @@
 //! The answer to a line.
 ghost use Rattle.std.specs.Prelude.{◌≡◌, ◌++◌, OnOk, string_bytes};
 ghost use Rattle.hp_live.specs.Answers.{did_text, said, untold};
+ghost use Rattle.hp_live.specs.Results.{left_by};
 
 use hp_requests::ControlFault;
 use hp_text::{write_answer, write_echo_fault, write_plan_end, write_sealed, write_unrecorded};
@@ -25,6 +26,18 @@ pub enum Did {
     File,
     /// It sealed this many records.
     Sealed(u64),
+}
+
+impl Did {
+    /// Returns the serial and the reply of the record that the event left, if it left one.
+    pub(crate) fn left(self) -> Option<(Serial, Reply)>
+        ensures { result ≡ left_by self }
+    {
+        match self {
+            Did::Event { serial, reply } => Some((serial, reply)),
+            _ => None,
+        }
+    }
 }
 
 /// The answer to a line: what it did, the calls of its plan, and the text that `hotplug serial`

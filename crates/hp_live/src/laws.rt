@@ -22,7 +22,8 @@ use hp_trace::live_rows_are_the_trace;
 /// texts that are lines, read like a scenario's `calls`, with plain numbers in place of names for
 /// results. With the state of the machine after them, what was written is a text of `hotplug
 /// serial` for a scenario of the layout and these lines. It is the only such text if no line ran
-/// out of memory.
+/// out of memory. If the session began with a scenario, the scenario's lines and their text come
+/// first.
 pub fn answers_are_what_serial_writes()
     ensures lines { (l : LayoutParts) (texts : List (List ℕ)) (written : List ℕ) (s : SessionValue)
         → AnswersAll (started l) texts written s → WritesLines (booted l) s.lines written s.machine }
@@ -51,8 +52,9 @@ pub fn talks_tell_their_lines()
 {}
 
 /// In a session that replies in rows, the first row and the rows in the replies, one after another,
-/// are what `hotplug_lab trace` draws of the scenario and the lines so far, from the first line of
-/// the session on, all with plain numbers. This holds if there was memory for each reply.
+/// are a trace. `hotplug_lab trace` draws it of the scenario with the session's lines after its
+/// own, all with plain numbers, from the first line of the session on. This holds if there was
+/// memory for each reply.
 pub fn talks_draw_the_trace()
     ensures { (scenario : NamedValue) (width : ℕ) (orders : Bool) (first s : RowsSession)
         (lines : List (List ℕ)) (text : List ℕ) → (begun : RowsBegun scenario width orders first)

@@ -23,8 +23,8 @@ use hp_talk::Talk;
 use std::alloc::{AllocError, Global};
 use std::str;
 
-/// Replies to each line with one object of JSON: to a line of a scenario with its answer, to a word
-/// with a text. An empty line has no reply.
+/// Replies to each line with one object of JSON: to a line of a scenario with its answer, to a
+/// command word such as `state` with a text. An empty line has no reply.
 #[derive(Drop)]
 pub struct ObjectTalk {
     session: Session,

@@ -77,7 +77,8 @@ fn write_parts(
     }
 }
 
-/// Returns what comes after the colon in a line's text, without the newline.
+/// Returns what comes after the first `: ` in a line's text, without the newline. If there is none,
+/// returns all of the text.
 fn words_of(text: &str) -> &str {
     let words = match text.split_once(": ") {
         Some((_, words)) => words,

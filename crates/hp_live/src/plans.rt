@@ -10,7 +10,7 @@ use hp_ops::{Port, run_plan};
 use hp_units::{CallFault, Cpu, Event, OpEnd, Plan, Receipt, Reply, Serial};
 use std::alloc::{AllocError, Global};
 
-/// A port that stores the receipts of its calls: a processor of a machine.
+/// A port, which calls a machine as one of its processors, and stores the receipts of its calls.
 #[derive(Drop)]
 struct KeepingPort<'a> {
     machine: &'a mut UnrecordedMachine,

@@ -1,15 +1,14 @@
 //! The names of results in a session.
-ghost use Rattle.std.specs.Prelude.{◌≡◌, option_map, true};
+ghost use Rattle.std.specs.Prelude.{◌≡◌, true};
 ghost use Rattle.hp_names.specs.Bindings.{bound_after};
 ghost use Rattle.hp_scenario.specs.Asked.{asked_by};
 ghost use Rattle.hp_live.specs.Results as spec;
 ghost use Rattle.hp_live.specs.Results.{IsKnown};
 
-use crate::answers::Did;
 use hp_machine::Machine;
 use hp_names::{Bindings, Naming, missing_number, result_number};
 use hp_scenario::{Asked, Work};
-use hp_units::{Event, Record};
+use hp_units::{Event, Reply, Serial};
 
 /// What became of a line that was run.
 #[derive(Clone, Copy)]
@@ -20,12 +19,13 @@ pub(crate) struct Ran {
     pub(crate) is_answered: bool,
 }
 
-/// Returns the number of the result of a line that did this, or 0 if the line calls no event.
-pub(crate) fn number_asked(work: &Work, did: Did) -> u64
-    ensures { result ≡ spec.number_asked (asked_by work.now) did }
+/// Returns the number of the result of a line, or 0 if the line calls no event. `left` has the
+/// serial and the reply of the record that the event left, if it left one.
+pub(crate) fn number_of(work: &Work, left: Option<(Serial, Reply)>) -> u64
+    ensures { result ≡ spec.number_of (asked_by work.now) left }
 {
     match work.asked() {
-        Asked::Event(event) => number_did(event, did),
+        Asked::Event(event) => event_result(event, left),
         Asked::Plan { plan: _, turns: _ } => 0,
         Asked::NotTaken(_fault) => 0,
         Asked::Cat { path: _ } => 0,
@@ -33,37 +33,25 @@ pub(crate) fn number_asked(work: &Work, did: Did) -> u64
     }
 }
 
-/// Returns the number of the result of an event that did this.
-fn number_did(event: &Event, did: Did) -> u64
-    ensures { result ≡ spec.number_did event.now did }
+/// Returns the number of the result of an event. `left` has the serial and the reply of the record
+/// that it left, if it left one.
+fn event_result(event: &Event, left: Option<(Serial, Reply)>) -> u64
+    ensures { result ≡ spec.event_result event.now left }
 {
-    match did {
-        Did::Event { serial, reply } => result_number(event, serial, &reply),
-        _ => missing_number(event),
-    }
-}
-
-/// Returns the number of the result of a line, or 0 if the line calls no event. If the event left a
-/// record, the machine has it after `before` others.
-pub(crate) fn number_left(work: &Work, machine: &Machine, before: usize) -> u64
-    ensures { result ≡ spec.number_after (asked_by work.now) before machine.now }
-{
-    match work.asked() {
-        Asked::Event(event) => number_record(event, machine.history().get(before)),
-        Asked::Plan { plan: _, turns: _ } => 0,
-        Asked::NotTaken(_fault) => 0,
-        Asked::Cat { path: _ } => 0,
-        Asked::Seal => 0,
-    }
-}
-
-/// Returns the number of the result of an event that left this record.
-fn number_record(event: &Event, record: Option<&Record>) -> u64
-    ensures { result ≡ spec.number_record event.now (option_map (λ r. r.now) record.entry) }
-{
-    match record {
-        Some(record) => result_number(event, record.serial, &record.reply),
+    match left {
+        Some((serial, reply)) => result_number(event, serial, &reply),
         None => missing_number(event),
+    }
+}
+
+/// Returns the serial and the reply of the record that a machine has after `before` others, if it
+/// has one.
+pub(crate) fn left_in(machine: &Machine, before: usize) -> Option<(Serial, Reply)>
+    ensures { result ≡ spec.left_in machine.now before }
+{
+    match machine.history().get(before) {
+        Some(record) => Some((record.serial, record.reply)),
+        None => None,
     }
 }
 

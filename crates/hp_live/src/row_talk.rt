@@ -12,7 +12,7 @@ ghost use Rattle.hp_live.specs.RowTalks.{IsLostRow, IsLostTyped, RowsBegun, Rows
 ghost use Rattle.hp_live.specs.Talks.{word_of};
 
 use crate::live_words::{LiveWord, word_of};
-use crate::results::{Ran, note, number_left};
+use crate::results::{Ran, left_in, note, number_of};
 use crate::words::help;
 use hp_check::{name_typo, write_expected};
 use hp_names::{Bindings, NamedScenario, PlainLine, plain_line, resolve_front};
@@ -27,7 +27,7 @@ use std::marker::Model;
 use std::str;
 
 /// Replies to each line with its rows: the answer, and the memory after each of its calls. Replies
-/// to a word with a text. An empty line has no reply.
+/// to a command word such as `state` with a text. An empty line has no reply.
 #[derive(Drop)]
 pub struct RowTalk {
     names: IndexSet<Text>,
@@ -155,7 +155,9 @@ impl RowTalk {
         self.write_to_plain(alloc, text, plain)
     }
 
-    /// Does the same for a line whose names for results were replaced by numbers.
+    /// Runs a text if it is a line, after names for results were replaced by numbers, and writes
+    /// its rows. Keeps the line, unless there is no memory for it. `text` is the original, for the
+    /// report that it is not a line.
     fn write_to_plain(
         &mut self,
         alloc: Global,
@@ -211,7 +213,7 @@ fn run_and_keep(
     let number = lines.len() as u64 + 1;
     let before = trace.machine().history().len();
     let ran = trace.run(alloc, names, number, &line);
-    let result = number_left(&line.work, trace.machine(), before);
+    let result = number_of(&line.work, left_in(trace.machine(), before));
     lines.push_reserved(line);
     Ran {
         number: result,
@@ -230,7 +232,7 @@ fn write_rows(out: &mut String, trace: &LiveTrace, are_drawn: bool) -> Result<()
     out.push_str(trace.text())
 }
 
-/// Writes what was expected of a text that is not a line, after lines with these names.
+/// Writes what was expected of a text that is not a line. `bound` has the names of earlier results.
 fn write_no_line(
     out: &mut String,
     alloc: Global,
@@ -243,7 +245,7 @@ fn write_no_line(
     out.push_str("\n")
 }
 
-/// Returns the view of the lines after a scenario's.
+/// Returns the view of all lines after those of a scenario.
 fn view_after(scenario: &Scenario, width: u64, orders: bool) -> View
     ensures { result ≡ later_view (scenario_seen scenario.now) width orders }
 {

@@ -114,7 +114,8 @@ fn run_to_end(
     }
 }
 
-/// Returns the end of a plan that runs out of memory before its first call.
+/// Returns the end of a plan that runs out of memory before its first call. The fault is
+/// `HistoryFull` if the history is full as well.
 fn left(machine: &UnrecordedMachine) -> OpEnd
     ensures { IsLeft machine.now result }
 {

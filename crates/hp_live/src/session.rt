@@ -8,7 +8,7 @@ ghost use Rattle.hp_commands.specs.Serial.{WritesLines};
 ghost use Rattle.hp_live.specs.Sessions.{AnswersRead, AnswersText, IsLost, IsLostTyped, IsResumed, started};
 
 use crate::answers::LiveAnswer;
-use crate::results::{Ran, note, number_asked};
+use crate::results::{Ran, note, number_of};
 use crate::runs::answer_line;
 use hp_machine::UnrecordedMachine;
 use hp_names::{Bindings, NamedScenario, PlainLine, plain_line, resolve_front};
@@ -119,7 +119,8 @@ impl Session {
         }
     }
 
-    /// Does the same for a line whose names for results were replaced by numbers.
+    /// Reads a line in which names for results were replaced by numbers, runs it, and makes its
+    /// answer in `out`. A text that is not a line changes nothing.
     fn answer_plain(
         &mut self,
         alloc: Global,
@@ -182,7 +183,7 @@ fn run_and_keep(
     ensures done { IsDone machine.old line.cpu (asked_by line.work) out.new.did machine.new }
 {
     let answered = answer_line(out, alloc, machine, &line);
-    let number = number_asked(&line.work, out.did());
+    let number = number_of(&line.work, out.did().left());
     lines.push_reserved(line);
     Ran {
         number,

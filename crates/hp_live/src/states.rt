@@ -38,9 +38,9 @@ impl ShownStates {
         }
     }
 
-    /// If states are shown, adds to an object how the machine's state differs from the last one.
-    /// The first state is shown whole. `object` ends with a newline. Returns the state that the
-    /// object shows, for `keep` to store.
+    /// If states are shown, adds to an object how the machine's state differs from the last one
+    /// shown. The first state is shown whole. `object` ends with a newline. Returns the state that
+    /// the object shows, for `keep` to store.
     pub(crate) fn show(
         &self,
         alloc: Global,
@@ -60,7 +60,7 @@ impl ShownStates {
         Ok(Some(now))
     }
 
-    /// Adds to an object, which a newline follows, how a state differs from the last one.
+    /// Adds to an object, which a newline follows, how a state differs from the last one shown.
     fn show_image(
         &self,
         alloc: Global,

@@ -1,8 +1,10 @@
--- The events of a log in columns of equal numbers of events; each keeps the greatest count.
+-- The events of a log in columns of equal numbers of events. A column keeps the greatest count of
+-- frames in use that one of its events left.
 use Rattle.std.specs.Prelude.{ℕ, zero, suc, ◌+◌, ◌-◌, ◌*◌, ◌/◌, List, min, slice_index}
 
 pub record Sampled : Type 0 where
-  -- how many events a full column has, how many there are, and how many more the last column takes
+  -- how many events a full column has, how many events there are, and how many more fit into the
+  -- last column
   pub width : ℕ
   pub events : ℕ
   pub room : ℕ
@@ -11,7 +13,7 @@ pub record Sampled : Type 0 where
   -- the greatest count of each column
   pub peaks : List ℕ
 
--- event e, counted from 0, lies in column e / width; the count of that column
+-- the greatest count of column e / width, in which event e lies; events are counted from 0
 abbrev pub peak_at : Sampled → ℕ → ℕ
 peak_at s e = slice_index s.peaks (e / s.width)
 

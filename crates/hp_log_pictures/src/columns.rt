@@ -93,7 +93,8 @@ impl Columns {
     }
 
     /// Adds event number `event`, which leaves `count` frames in use and the marks `state`; `ends`
-    /// are marks of this event only. The events since the last one that was added changed nothing.
+    /// are marks of this event only. The events between the last one that was added and this one
+    /// changed nothing.
     pub fn read(
         &mut self,
         event: u64,
@@ -180,7 +181,7 @@ impl Columns {
         Ok(())
     }
 
-    /// Joins neighbours if the number of columns is at its limit.
+    /// Joins each two neighbouring columns into one if the number of columns is at its limit.
     fn make_room(&mut self) -> Result<(), AllocError>
         requires full { self.old.room ≡ 0 }
         requires small { self.old.events < 2 ^ 63 }
@@ -206,7 +207,7 @@ impl Columns {
         self.peaks.len()
     }
 
-    /// Adds events to the last column.
+    /// Adds at least one event and at most `most` to the last column, which has room.
     fn raise_last(&mut self, most: u64, marks: BlockSigns)
         requires some { 0 < most }
         requires room { 0 < self.old.room }
@@ -227,7 +228,7 @@ impl Columns {
         self.room -= added;
     }
 
-    /// Adds a column with its first events, after one that is full.
+    /// Adds a column with at least one event and at most `most`. The column before it is full.
     fn push_column(&mut self, most: u64, marks: BlockSigns) -> Result<(), AllocError>
         requires some { 0 < most }
         requires full { self.old.room ≡ 0 }
@@ -249,7 +250,8 @@ impl Columns {
         Ok(())
     }
 
-    /// Joins neighbours when all columns are full.
+    /// Joins each two neighbouring columns into one. All columns are full, and there are as many as
+    /// there may be.
     fn join(&mut self) -> Result<(), AllocError>
         requires full { self.old.room ≡ 0 }
         requires many { length self.old.peaks ≡ 1024 }
@@ -277,7 +279,7 @@ fn mark_last(columns: &mut Vec<BlockSigns>, marks: BlockSigns) {
     }
 }
 
-/// Returns the greater count of each two neighbours.
+/// Returns the greater count of each two neighbouring columns.
 fn joined_peaks(alloc: Global, peaks: &[u32]) -> Result<Vec<u32>, AllocError>
     requires { length peaks.now ≡ 1024 }
     ensures half { IfOk result (λ v. length v.items ≡ 512) }
@@ -291,7 +293,7 @@ fn joined_peaks(alloc: Global, peaks: &[u32]) -> Result<Vec<u32>, AllocError>
     Ok(out)
 }
 
-/// Returns the marks of each two neighbours.
+/// Returns the marks of each two neighbouring columns, taken together.
 fn joined_marks(alloc: Global, marks: &[BlockSigns]) -> Result<Vec<BlockSigns>, AllocError> {
     let mut out = Vec::new(alloc);
     for pair in marks.chunks(2) {

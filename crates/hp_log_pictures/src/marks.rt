@@ -30,7 +30,7 @@ impl BlockSigns {
         }
     }
 
-    /// Returns the mark of a phase.
+    /// Returns the mark of a phase. A block that is online, or whose phase is unknown, has none.
     pub fn of_phase(phase: &Phase) -> BlockSigns {
         let mut marks = BlockSigns::none();
         match phase {

@@ -15,7 +15,7 @@ pub enum LineFault {
     UnknownKey,
     /// A key comes twice.
     RepeatedKey,
-    /// A key's value has the wrong type, or is too large.
+    /// A key's value has the wrong type, is too large, or is a word that the key does not take.
     WrongValue,
     /// The line has no key that names its event, or several, or keys that do not belong to the
     /// event.
@@ -41,7 +41,7 @@ impl From<AllocError> for LineFault {
 /// Why the rest of a log cannot be read.
 #[derive(Clone, Copy, Debug, PartialEq, Eq, Drop)]
 pub enum LogFault {
-    /// A call of the stream failed.
+    /// A read of the stream failed.
     ReadFailed,
     /// The line with this number, from 1, has a fault.
     Line { number: u64, fault: LineFault },

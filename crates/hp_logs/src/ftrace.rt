@@ -145,7 +145,8 @@ fn print_event(text: &[u8]) -> LogEvent {
     }
 }
 
-/// Reads a mark. One that is not about a memory block belongs to the test.
+/// Reads a mark. A mark that is not the start or the end of an online or an offline is
+/// `LogEvent::Other`.
 fn mark_event(text: &[u8]) -> LogEvent {
     match str::from_utf8(text) {
         Ok(text) => marked(text).unwrap_or(LogEvent::Other),
@@ -192,8 +193,9 @@ impl StateWrite {
     }
 }
 
-/// Reads what was written to a block's file. If the kernel chose the zone, the log does not show
-/// that it is Movable.
+/// Returns what a write to a file of a memory block asks for, if it is an online or an offline. If
+/// the kernel chooses the zone, zone Normal is returned, since the log does not show which one it
+/// is.
 fn write_of(file: &str, text: &str) -> Option<StateWrite> {
     match (file, text) {
         ("state", "online_movable") => Some(StateWrite::Online(Zone::Movable)),

@@ -125,7 +125,7 @@ impl Keys {
         }
     }
 
-    /// Returns the event that the keys make.
+    /// Returns the event that the keys describe.
     fn event(&self) -> Result<LogEvent, LineFault> {
         if self.block_frames.is_some() && self.is_named() {
             return Err(LineFault::NotAnEvent);
@@ -284,7 +284,7 @@ fn number_of(value: Option<Token<'_>>) -> Option<u32> {
     }
 }
 
-/// Refuses a value whose type is not the key's.
+/// Fails with `WrongValue` unless the key can have the value.
 fn checked(is_known: bool) -> Result<(), LineFault> {
     if is_known {
         Ok(())

@@ -47,7 +47,8 @@ impl LogReader {
 
     /// Returns how many frames a memory block has, if the first line has that number.
     ///
-    /// Call it before the first event is read. The line counts as one without an event.
+    /// Call it before the first event is read. A first line with that number has no event of its
+    /// own: it counts as `LogEvent::Other`.
     pub fn block_frames<R: Source>(&mut self, source: &mut R) -> Result<Option<u32>, LogFault>
         requires { R.failures source.old < 2 ^ 64 - 1 }
         ensures { OnOk result (R.failures source.new ≡ R.failures source.old) }

@@ -6,8 +6,8 @@ use Rattle.hp_units.specs.Placement.{IsWellPlaced}
 use Rattle.hp_laws.specs.Offline.{AreClaimedUpTo}
 use Rattle.hp_machine.specs.Machine.{IsHistory, MachineValue}
 
--- each frame of the base is in exactly one place, operations in it have numbers up to that of the
--- last sealed record, the history is within its limit, and the base is the boot state until the
+-- each frame of the base is in exactly one place, and operations in it have numbers up to that of
+-- the last sealed record. The history is within its limit, and the base is the boot state until the
 -- first seal
 pub record IsMachine (m : MachineValue) : Type 0 where
   pub limits : IsLayout m.layout

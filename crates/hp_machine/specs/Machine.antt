@@ -20,16 +20,16 @@ MachineValue = CourseValue
 abbrev pub booted : LayoutParts → MachineValue
 booted l = record { layout = l; before = 0; base = boot_memory l; history = []; state = boot_memory l }
 
--- the main theorem for one machine: its history is legal, and its state is what the plain machine
--- reaches from the base by the steps of the history that are not undone
+-- the main theorem for one machine: its history is legal, and those of its steps that are not
+-- undone lead from the base to the state
 abbrev pub IsHistory : MachineValue → Type 0
 IsHistory = IsCourseHistory
 
--- what a user relies on: the layout and the history are within their limits, each frame is in
--- exactly one place, and the pages hold what the Map, Unmap and Write steps that are not undone
--- make of the base's pages. The base, too, is well placed, and its operations have numbers up to
--- that of the last sealed record: so the laws of histories hold of the machine's own history, and
--- it can be replayed
+-- what a user relies on: the layout and the history are within their limits, and each frame is in
+-- exactly one place. The pages hold what the Map, Unmap and Write steps that are not undone make of
+-- the base's pages. The base, too, is well placed, and its operations have numbers up to that of
+-- the last sealed record. So the laws of histories hold of the machine's own history, and it can be
+-- replayed
 pub record IsSound (m : MachineValue) : Type 0 where
   pub limits : IsLayout m.layout
   pub few : length m.history ≤ m.layout.history
@@ -47,6 +47,6 @@ abbrev pub sealed : MachineValue → MachineValue
 sealed m = started m.layout m.state (last_serial m)
 
 -- a call with a processor's event: one record is appended, with the next serial and the reply that
--- the definitions give, and the new state is that of the longer history
+-- the definitions give. The new state is that of the longer history
 abbrev pub IsCalled : MachineValue → ℕ → Event → Receipt → MachineValue → Type 0
 IsCalled = IsAnswered

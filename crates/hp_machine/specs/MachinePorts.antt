@@ -9,7 +9,8 @@ use Rattle.hp_machine.specs.Machine.{IsCalled, MachineValue, is_full}
 use Rattle.hp_machine.specs.Names.{Receipt, CallFault, HistoryFull, OutOfMemory}
 use Rattle.hp_ops.specs.Ports.{PortValue}
 
--- what a processor's port shows: the processor's records of the machine
+-- what a processor's port shows: the processor's records in the machine's history, the fault of the
+-- last call, and the number of processors
 abbrev pub port_value : MachineValue → (cpu : ℕ) → Option CallFault → PortValue
 port_value m cpu fault = record { receipts = receipts_of cpu m.history; fault = fault; cpus = m.layout.cpus }
 
@@ -25,7 +26,8 @@ HasCause None m = ⊤
 HasCause (Some HistoryFull) m = is_full m ≡ true
 HasCause (Some OutOfMemory) m = is_full m ≡ false
 
--- the processor's calls are a driver's run with this end, and made the new machine of the old
+-- a processor's calls lead from the old machine to the new one, and are a driver's run with this
+-- end
 pub record IsPlanRun (m : MachineValue) (cpu turns : ℕ) (plan : List Item) (end : OpEnd)
     (new : MachineValue) : Type 0 where
   pub receipts : List Receipt
@@ -42,7 +44,7 @@ calls_joined cpu [] ys old mid new first second =
 calls_joined cpu (x ∷ xs) ys old mid new first second =
     (first.0, first.1, first.2, calls_joined cpu xs ys first.0 mid new first.3 second)
 
--- the same, with the processor given twice
+-- as `calls_joined`, but the processor of the second calls has a name of its own and is equal
 pub makes_joined : (cpu same : ℕ) (xs ys : List Receipt) (old mid new : MachineValue) → same ≡ cpu
     → AreCalls old cpu xs mid → AreCalls mid same ys new → AreCalls old cpu (xs ++ ys) new
 makes_joined cpu same xs ys old mid new is first second =

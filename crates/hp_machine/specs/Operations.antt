@@ -10,7 +10,7 @@ use Rattle.hp_laws.specs.Operations.{BeginsAt, IsOpenBehind, RowsAre, state_befo
 use Rattle.hp_machine.specs.Machine.{MachineValue}
 
 -- a Begin that is not undone claims each block of its plan; until its operation's Commit or Cancel,
--- their rows are those that it left
+-- the blocks' rows are as the Begin left them
 pub record HoldsRows (m : MachineValue) : Type 0 where
   pub claimed : (place : ℕ) (b : Record) (plan : List Item) → BeginsAt (net_of m.history) place b plan
       → RowsAre (state_behind m.layout m.base m.before m.history b) plan (λ item. claimed_row
@@ -20,8 +20,8 @@ pub record HoldsRows (m : MachineValue) : Type 0 where
       → RowsAre m.state plan
       (λ item. row_of (state_behind m.layout m.base m.before m.history b).blocks item.block)
 
--- a Commit that is not refused gives each block its wish, all in one step; just before it, the rows
--- are those that the Begin left. `h` are the records before it
+-- a Commit that is not refused gives each block its wish, all in one step; just before the Commit,
+-- the rows are as the Begin left them. `h` are the records before the Commit
 pub record GrantsWishes (m : MachineValue) : Type 0 where
   pub held : (h rest : List Record) (r : Record) (place : ℕ) (b : Record) (plan : List Item)
       → m.history ≡ h ++ r ∷ rest → BeginsAt (net_of h) place b plan → r.event ≡ Commit b.serial
@@ -34,7 +34,7 @@ pub record GrantsWishes (m : MachineValue) : Type 0 where
       → RowsAre (value_of m.layout m.base (h ++ r ∷ [])) plan (λ item. wished_row item.wish)
 
 -- a Cancel that is not refused gives each block the row from just before the Begin. `h` are the
--- records before it
+-- records before the Cancel
 abbrev pub GivesRowsBack : MachineValue → Type 0
 GivesRowsBack m =
     (h rest : List Record) (r : Record) (place : ℕ) (b : Record) (plan : List Item)
@@ -43,7 +43,7 @@ GivesRowsBack m =
     → RowsAre (value_of m.layout m.base (h ++ r ∷ [])) plan
     (λ item. row_of (state_before m.layout m.base m.before h b).blocks item.block)
 
--- all of these
+-- what holds of the rows of operations' blocks after Begins, Commits and Cancels
 pub record KeepsOperations (m : MachineValue) : Type 0 where
   pub rows : HoldsRows m
   pub commits : GrantsWishes m

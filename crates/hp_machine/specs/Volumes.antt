@@ -25,19 +25,20 @@ pub record GoesOnFrom (volumes : List Volume) (m : MachineValue) : Type 0 where
 abbrev pub all_records : List Volume → MachineValue → List (List Record)
 all_records volumes m = histories_of volumes ++ m.history ∷ []
 
--- the state that histories lead to from boot, and the states just before and just after one of
--- their records
+-- the state that histories lead to from boot
 abbrev pub reached : MachineValue → List (List Record) → Memory
 reached m hs = value_of_all m.layout (boot_memory m.layout) hs
 
+-- the state just before one of the histories' records
 abbrev pub found_by : MachineValue → List (List Record) → Record → Memory
 found_by m hs r = state_just_before m.layout (boot_memory m.layout) 0 hs r
 
+-- the state just after one of the histories' records
 abbrev pub left_by : MachineValue → List (List Record) → Record → Memory
 left_by m hs r = state_just_after m.layout (boot_memory m.layout) 0 hs r
 
--- a Begin that is not undone claims each block of its plan; until its operation's Commit or Cancel,
--- in these volumes or in the machine, their rows are those that it left
+-- a Begin that is not undone claims each block of its plan. Until its operation's Commit or Cancel,
+-- in these volumes or in the machine, the blocks' rows are as the Begin left them
 pub record HoldsRowsAfter (volumes : List Volume) (m : MachineValue) : Type 0 where
   pub claimed : (place : ℕ) (b : Record) (plan : List Item)
       → BeginsAt (net_of_all (all_records volumes m)) place b plan
@@ -48,9 +49,9 @@ pub record HoldsRowsAfter (volumes : List Volume) (m : MachineValue) : Type 0 wh
       → IsOpenBehind b.serial place (net_of_all (all_records volumes m))
       → RowsAre m.state plan (λ item. row_of (left_by m (all_records volumes m) b).blocks item.block)
 
--- a Commit that is not refused gives each block its wish, all in one step; just before it, the rows
--- are those that the Begin left. `earlier` are the histories before its own, `h` the records before
--- it there
+-- a Commit that is not refused gives each block its wish, all in one step; just before the Commit,
+-- the rows are as the Begin left them. `earlier` are the histories before the one with the Commit,
+-- `h` the records before the Commit in that one
 pub record GrantsWishesAfter (volumes : List Volume) (m : MachineValue) : Type 0 where
   pub held : (earlier later : List (List Record)) (h rest : List Record) (r : Record) (place : ℕ) (b : Record)
       (plan : List Item)
@@ -66,7 +67,8 @@ pub record GrantsWishesAfter (volumes : List Volume) (m : MachineValue) : Type 0
       → is_refused r.reply ≡ false
       → RowsAre (reached m (earlier ++ (h ++ r ∷ []) ∷ [])) plan (λ item. wished_row item.wish)
 
--- a Cancel that is not refused gives each block the row from just before the Begin, in the same way
+-- a Cancel that is not refused gives each block back the row that it had just before the Begin;
+-- `earlier` and `h` are as in GrantsWishesAfter
 abbrev pub GivesRowsBackAfter : List Volume → MachineValue → Type 0
 GivesRowsBackAfter volumes m =
     (earlier later : List (List Record)) (h rest : List Record) (r : Record) (place : ℕ) (b : Record)
@@ -77,17 +79,17 @@ GivesRowsBackAfter volumes m =
     → RowsAre (reached m (earlier ++ (h ++ r ∷ []) ∷ [])) plan
     (λ item. row_of (found_by m (earlier ++ h ∷ []) b).blocks item.block)
 
--- all of these
+-- what holds of the rows of operations' blocks, over the volumes and the machine's own history
 pub record KeepsOperationsAfter (volumes : List Volume) (m : MachineValue) : Type 0 where
   pub rows : HoldsRowsAfter volumes m
   pub commits : GrantsWishesAfter volumes m
   pub cancels : GivesRowsBackAfter volumes m
 
--- the same for a machine, after any volumes that it goes on from
+-- KeepsOperationsAfter holds for all volumes that the machine goes on from
 abbrev pub KeepsOperationsAcrossSeals : MachineValue → Type 0
 KeepsOperationsAcrossSeals m =
     (volumes : List Volume) → GoesOnFrom volumes m → KeepsOperationsAfter volumes m
 
--- a machine that goes on from volumes goes on from these and one more after a seal
+-- if the old machine goes on from some volumes, the new one goes on from these and then `v`
 abbrev pub GoesOnWith : MachineValue → Volume → MachineValue → Type 0
 GoesOnWith old v new = (volumes : List Volume) → GoesOnFrom volumes old → GoesOnFrom (volumes ++ v ∷ []) new

@@ -128,7 +128,8 @@ impl Machine {
         carry_out(alloc, self, cpu, plan, turns)
     }
 
-    /// Reserves room for `records` more records, so that they need not be moved as more come.
+    /// Reserves room for `records` more records and their journal entries. The tape of deltas may
+    /// still grow.
     pub fn reserve(&mut self, records: usize) -> Result<(), AllocError>
         ensures { self.new ≡ self.old }
     {
@@ -195,8 +196,9 @@ impl Machine {
     }
 
     /// Called for its contract: from a Begin that is not undone to its operation's Commit or
-    /// Cancel, the rows of its plan's blocks are those that it left; a Commit gives each its wish,
-    /// and a Cancel the row from before the Begin (Linux, memory hotplug: offlining).
+    /// Cancel, the rows of its plan's blocks are as the Begin left them. A Commit that is not
+    /// refused gives each block its wish. A Cancel that is not refused gives each the row from
+    /// before the Begin (Linux, memory hotplug: offlining).
     pub fn keeps_operations(&self)
         ensures { KeepsOperations self.now }
     {
@@ -204,9 +206,9 @@ impl Machine {
     }
 
     /// Called for its contract: what `keeps_operations` guarantees also holds over the records of
-    /// volumes that follow one another from boot and lead to the machine's base, and then the
-    /// machine's own. An operation may begin before a seal and end after it (Linux, memory hotplug:
-    /// offlining).
+    /// volumes and then the machine's own. The volumes must follow one another from boot and lead
+    /// to the machine's base. An operation may begin before a seal and end after it (Linux, memory
+    /// hotplug: offlining).
     pub fn keeps_operations_across_seals(&self)
         ensures { KeepsOperationsAcrossSeals self.now }
     {
@@ -292,8 +294,8 @@ impl Machine {
     }
 
     /// Returns the deltas of step `at` of those that are not undone, counted from 0; `None` past
-    /// the last. Latest first, they lead back from the state after the step to the state before it,
-    /// and are no more than the bound.
+    /// the last. Latest first, they lead back from the state after the step to the state before it.
+    /// There are at most as many as the step's bound.
     pub fn entry(&self, at: u64) -> Option<&[Delta]>
         ensures { MatchOption result (length (net_of self.now.history) ≤ at)
             (λ deltas. IsEntry self.now at deltas.now) }

@@ -32,8 +32,8 @@ pub trait CallMachine {
             (receipt_for event.now answer) (machine self.new)) };
 }
 
-/// A processor of a machine. It shows the processor's records of the machine as its receipts; if
-/// the machine keeps none, only in proofs.
+/// A processor of a machine, as a port for a plan's driver. It shows the processor's records as
+/// receipts; if the machine keeps no records, they exist only in proofs.
 #[derive(Drop)]
 pub struct MachinePort<'a, M: CallMachine> {
     /// The machine.

@@ -77,7 +77,8 @@ impl UnrecordedMachine {
         carry_out(alloc, self, cpu, plan, turns)
     }
 
-    /// Reserves room for `steps` more steps, so that making them does not reallocate.
+    /// Reserves room for the journal entries of `steps` more steps. The tape of deltas may still
+    /// grow.
     pub fn reserve(&mut self, steps: usize) -> Result<(), AllocError>
         ensures { self.new ≡ self.old }
     {

@@ -4,9 +4,9 @@ use Rattle.std.specs.Str.{bytes_eq}
 use Rattle.hp_map.specs.declared.block_picture.FreeBlock.{FreeBlock}
 use Rattle.hp_map.specs.declared.block_picture.KernelBlock.{KernelBlock}
 
--- a memory block as it is drawn: the text before its cells; its cells; its cells with each free block
--- drawn by its order; its free blocks and the kernel's blocks; and a letter for each of its frames, by
--- the mobility of the frame's pageblock
+-- a memory block as it is drawn: the text before its cells, its cells, and its cells with each free
+-- block drawn by its order. It also has its free blocks, the kernel's blocks, and a letter for each
+-- of its frames, by the mobility of the frame's pageblock
 pub record BlockValue : Type 0 where
   pub head : List ℕ
   pub cells : List ℕ

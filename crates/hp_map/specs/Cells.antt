@@ -11,8 +11,8 @@ use Rattle.hp_map.specs.declared.places.Place.TheVariants.{Absent}
 abbrev pub starts_later : LayoutParts → (number : ℕ) → Bool
 starts_later l number = nat_lt 0 number && (number % pageblock_size l == 0)
 
--- the number of characters before a frame in the cells of its memory block; frames are counted from the
--- first of the block
+-- the number of characters before a frame in the cells of its memory block; frames are counted from
+-- the first of the block
 abbrev pub cell_at : LayoutParts → (number : ℕ) → ℕ
 cell_at l number = number + number / pageblock_size l
 
@@ -20,7 +20,7 @@ cell_at l number = number + number / pageblock_size l
 abbrev pub cell_text : (is_later : Bool) → (sign : ℕ) → List ℕ
 cell_text is_later sign = (if is_later then codes "|" else []) ++ sign ∷ []
 
--- the place of a frame; each frame of the layout has one (ArePlacesOf)
+-- the place of a frame; Absent for a number past the last of `places`
 abbrev pub place_at : List Place → (frame : ℕ) → Place
 place_at places frame = unwrap_or (slice_get places frame) Absent
 

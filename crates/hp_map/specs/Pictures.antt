@@ -8,8 +8,8 @@ use Rattle.hp_map.specs.Cells.{cells_text}
 use Rattle.hp_map.specs.Places.{ArePlacesOf}
 use Rattle.hp_map.specs.declared.places.Place.{Place}
 
--- the picture of a memory block: its cells show the place of each frame, and it has the free blocks and
--- the kernel's blocks that start in the block
+-- the picture of a memory block: its cells show the place of each frame, and it has the free blocks
+-- and the kernel's blocks that start in the block
 pub record IsBlockPicture (l : LayoutParts) (s : Memory) (places : List Place) (block : ℕ)
     (picture : BlockValue) : Type 0 where
   pub cells : picture.cells ≡ cells_text l places block

@@ -19,16 +19,16 @@ continues_round row =
     starts_with nat_eq row.asked (codes "     drainfor ")
     || starts_with nat_eq row.asked (codes "     commit ")
 
--- the rows begin a round
+-- the first of the rows begins a round
 abbrev pub is_round : List RowValue → Bool
 is_round [] = false
 is_round (first ∷ rest) = begins_round first
 
--- the row belongs to the round that the rows begin
+-- the rows begin a round, and this row continues it
 abbrev pub goes_on : List RowValue → RowValue → Bool
 goes_on rows row = is_round rows && continues_round row
 
--- the rows are either a round or a single row of another kind
+-- the rows are either a round or a single row that belongs to no round
 abbrev pub is_whole : List RowValue → Bool
 is_whole [] = false
 is_whole (first ∷ rest) = list_all (λ row. goes_on (first ∷ []) row) rest
@@ -42,7 +42,7 @@ halves_of answer =
     (before_first (λ b. b == 58) answer, after_first (λ b. b == 58) answer)
     else None
 
--- the serial with which an answer begins
+-- the serial with which an answer begins; None if it begins with none
 abbrev pub serial_of : List ℕ → Option ℕ
 serial_of answer = option_and_then (λ halves. number_of 64 halves.0) (halves_of answer)
 
@@ -56,7 +56,7 @@ abbrev pub counted_in : (n : ℕ) → (answer : List ℕ) → Option (List ℕ �
 counted_in n answer None = answer
 counted_in n answer (Some halves) = counted n answer halves.1 (number_of 64 halves.0)
 
--- the answer with its serial raised by n
+-- the answer with its serial raised by n; unchanged if it begins with no serial
 abbrev pub counted_on : (n : ℕ) → (answer : List ℕ) → List ℕ
 counted_on n answer = counted_in n answer (halves_of answer)
 
@@ -69,7 +69,8 @@ blocks_in (Some row) = row.blocks
 abbrev pub memory_after : List RowValue → List BlockValue
 memory_after rows = blocks_in (slice_get rows (length rows - 1))
 
--- the row of a repeated call, n serials later: it has the same reply and leaves the memory as it was
+-- the row of a repeated call, n serials later: it has the same reply, moves no page, and leaves the
+-- memory as it was
 abbrev pub next_row : (n : ℕ) → (memory : List BlockValue) → RowValue → RowValue
 next_row n memory row = row_with row.asked (counted_on n row.answer) None memory
 
@@ -79,8 +80,8 @@ next_round n rows = map (next_row (n * length rows) (memory_after rows)) rows
 
 -- ---- rows in which equal rounds are joined
 
--- either a round, with the number of rounds right after it that repeat it, or a single row of another
--- kind, with 0 as `more`
+-- either a round, with the number of rounds right after it that repeat it, or a single row that
+-- belongs to no round, with 0 as `more`
 pub record RoundsValue : Type 0 where
   pub rows : List RowValue
   pub more : ℕ
@@ -98,7 +99,7 @@ more_rows rows (suc n) = more_rows rows n ++ next_round (suc n) rows
 abbrev pub all_rows : RoundsValue → List RowValue
 all_rows r = r.rows ++ more_rows r.rows r.more
 
--- the rows repeat the round once more
+-- the entry is a round with `more` repetitions, and the rows are its next repetition
 abbrev pub IsOneMore : RoundsValue → List RowValue → Type 0
 IsOneMore r rows = (is_round r.rows ≡ true) × (rows ≡ next_round (suc r.more) r.rows)
 
@@ -127,14 +128,16 @@ abbrev pub AreJoined : List RoundsValue → Type 0
 AreJoined [] = ⊤
 AreJoined (r ∷ rest) = IsEntry r × IsBefore r rest × AreJoined rest
 
--- the entries have exactly these rows, in this order
+-- the entries have exactly these rows, in this order, and each round is joined with the repetitions
+-- that come right after it
 pub record IsJoinOf (rows : List RowValue) (entries : List RoundsValue) : Type 0 where
   pub all : flat_map all_rows entries ≡ rows
   pub joined : AreJoined entries
 
 -- ---- joining row by row
 
--- the last entry so far, and the rows after it: either a round that may go on, or one other row
+-- the last entry so far, and the rows after it: none, a round that may go on, or one row that
+-- belongs to no round
 pub record JoinerValue : Type 0 where
   pub last : Option RoundsValue
   pub rest : List RowValue
@@ -143,8 +146,8 @@ pub record JoinerValue : Type 0 where
 abbrev pub nothing_read : JoinerValue
 nothing_read = record { last = None; rest = [] }
 
--- the rows read so far are the rows of the finished entries `done`, the rows of the entry `last`, and
--- the rows `left`
+-- the rows read so far are the rows of the finished entries `done`, the rows of the entry `last`,
+-- and the rows `left`
 abbrev pub HasRead : (done : List RoundsValue) → (last : Option RoundsValue) → (left rows : List RowValue)
     → Type 0
 HasRead done last [] rows = (done ≡ []) × (last ≡ None) × (rows ≡ [])

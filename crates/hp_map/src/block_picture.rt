@@ -109,7 +109,8 @@ impl BlockPicture {
     }
 
     /// Returns a letter for each of its frames, by the mobility of its pageblock: `M` for movable,
-    /// `U` for unmovable, and a space if the memory block is not in use; a bar between pageblocks.
+    /// `U` for unmovable. Letters are spaces if the memory block is not in use. A bar is between
+    /// pageblocks.
     pub fn kinds(&self) -> &str
         ensures { result.now ≡ self.now.kinds }
     {

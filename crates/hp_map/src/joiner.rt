@@ -1,4 +1,4 @@
-//! Joins equal rounds of rows, row by row.
+//! Joins equal rounds of a plan's calls, row by row.
 ghost use Rattle.std.specs.Prelude.{◌≡◌, ◌++◌, IfOk, OnOk};
 ghost use Rattle.std.specs.Option.{option_to_list};
 ghost use Rattle.hp_map.specs.Rounds.{Ends, IsJoinOf, JoinsTo, Takes, nothing_read};
@@ -9,11 +9,12 @@ use std::alloc::{AllocError, Global};
 use std::marker::Model;
 use std::mem::replace;
 
-/// Joins equal rounds, row by row. Keeps only one round and the rows after it.
+/// Joins equal rounds of a plan's calls, row by row. Keeps only the last entry (a round with the
+/// number of its repetitions, or a single row) and the rows after it.
 #[derive(Drop)]
 pub struct RoundJoiner {
     last: Option<Rounds>,
-    /// The rows after the last entry: a round that may go on, or one row of another kind.
+    /// The rows after `last`: none, a round that may go on, or one row that belongs to no round.
     rest: Vec<RowPicture>,
 }
 
@@ -34,7 +35,7 @@ struct LastEntry {
 }
 
 impl RoundJoiner {
-    /// Creates a joiner before any row.
+    /// Creates a joiner that has taken no row.
     pub fn new(alloc: Global) -> RoundJoiner
         ensures { result ≡ nothing_read }
     {
@@ -109,7 +110,8 @@ fn add(entries: &mut Vec<Rounds>, entry: Option<Rounds>) -> Result<(), AllocErro
     }
 }
 
-/// Joins the equal rounds of rows.
+/// Returns rows as entries, in which each round of a plan's calls is joined with the equal rounds
+/// right after it.
 pub fn join_rounds(alloc: Global, rows: Vec<RowPicture>) -> Result<Vec<Rounds>, AllocError>
     ensures { IfOk result (λ entries. IsJoinOf rows.items entries.items) }
 {

@@ -7,7 +7,7 @@ use hp_units::{Block, Frame, Kind, Mobility, Row, State, Text, pageblock_of};
 use std::alloc::{AllocError, Global};
 
 /// Returns a letter for each frame of a memory block of the layout, by the mobility of its
-/// pageblock.
+/// pageblock, with a bar between pageblocks. Letters are spaces if the memory block is not in use.
 pub(crate) fn draw_kinds(alloc: Global, machine: &Machine, block: Block) -> Result<Text, AllocError>
     requires { block < machine.now.layout.blocks }
 {

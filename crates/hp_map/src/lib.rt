@@ -1,10 +1,11 @@
 //! A map of a memory: in which place each frame is, each memory block as it is drawn, and rows of
 //! memory blocks with texts.
 //!
-//! The crate owns places, pictures of memory blocks, and the rows that hp_trace fills and hp_svg
+//! The crate defines places, pictures of memory blocks, and the rows that hp_trace fills and hp_svg
 //! draws. It changes nothing in a machine. Read specs/Places first: what it means that a frame is
-//! in a place; then specs/BlockPictures, specs/Pictures and specs/Rows, and specs/Rounds for the
-//! rounds that are shown once. specs/Marks has what each step of the walk over a state sets.
+//! in a place. Then read specs/BlockPictures, specs/Pictures and specs/Rows, and specs/Rounds for
+//! equal rounds, of which only the first is shown. specs/Marks has what each step of the walk over
+//! a state sets.
 #![tactic(auto)]
 
 mod block_picture;

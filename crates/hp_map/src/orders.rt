@@ -10,8 +10,9 @@ use hp_units::{Block, Class, Frame, Order, Text};
 use std::alloc::{AllocError, Global};
 
 /// Returns the cells of a memory block of the layout with each free block drawn by its order, or an
-/// empty text if orders are not shown. A block of order 0 is drawn as `.`, a larger one as its
-/// order in brackets, such as `(3.....)`. Isolated blocks are drawn as `:` and `{3:::::}`.
+/// empty text if orders are not shown. A block of order 0 is drawn as `.`, one of order 1 as `()`,
+/// and a larger one as its order in brackets, such as `(3.....)`. Isolated blocks are drawn as `:`,
+/// `{}` and `{3:::::}`.
 pub(crate) fn draw_orders(
     alloc: Global,
     machine: &Machine,
@@ -75,7 +76,7 @@ fn order_of(machine: &Machine, frame: Frame) -> Option<Order>
     None
 }
 
-/// Returns whether the free block has this order.
+/// Returns whether a free block starts at this place, and has this order.
 fn has_order(place: Option<(Class, Order)>, order: Order) -> bool {
     match place {
         Some(place) => place.1 == order,
@@ -99,8 +100,8 @@ fn ordered_sign(is_isolated: bool, order: Order, offset: u32) -> char
     }
 }
 
-/// Returns the character of a frame between the brackets of a free block: right after the first
-/// bracket a digit of the order, and then the character of a free frame.
+/// Returns the character of a frame between the brackets of a free block: first the digits of the
+/// order, and then the character of a free frame.
 fn inner_sign(is_isolated: bool, order: Order, offset: u32) -> char
     requires { order ≤ 10 }
     ensures { result < 128 }

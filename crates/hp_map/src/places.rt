@@ -19,7 +19,7 @@ pub enum Place {
     Kernel,
     /// On a list of a processor.
     Cached(Cpu),
-    /// A page of an owner.
+    /// Under a page of an owner.
     Page(Owner),
 }
 

@@ -10,9 +10,9 @@ use hp_numbers::number64;
 use std::alloc::{AllocError, Global};
 use std::marker::Model;
 
-/// A round of a plan's calls, and how many rounds right after it repeat it: the same calls got the
-/// same replies and left the memory as it was. Or a single row of another kind, for which there are
-/// no such rounds.
+/// A round of a plan's calls, and how many rounds right after it repeat it. A round repeats another
+/// if its calls are the same, got the same replies, and left the memory as it was. Or a single row
+/// that belongs to no round, with 0 repetitions.
 #[derive(Drop)]
 pub struct Rounds {
     rows: Vec<RowPicture>,
@@ -57,7 +57,8 @@ impl Rounds {
         all
     }
 
-    /// Returns the entry with one more round. Fails as if out of memory if 2^64 is reached.
+    /// Returns the entry with one more round. Fails as if out of memory if there would be 2^64 more
+    /// rounds.
     pub(crate) fn with_one_more(self) -> Result<Rounds, AllocError>
         ensures { IfOk result (λ now. now ≡ record self { more = suc self.more }) }
     {
@@ -135,7 +136,7 @@ fn continues_round(row: &RowPicture) -> bool
     asks(row, "     drainfor ") || asks(row, "     commit ")
 }
 
-/// Returns whether rows begin a round.
+/// Returns whether the first of the rows begins a round.
 fn is_round(rows: &[RowPicture]) -> bool
     ensures { result ≡ is_round rows.now }
 {
@@ -145,7 +146,7 @@ fn is_round(rows: &[RowPicture]) -> bool
     }
 }
 
-/// Returns whether a row belongs to the round that the rows begin.
+/// Returns whether the rows begin a round, and this row continues it.
 pub(crate) fn goes_on(rows: &[RowPicture], row: &RowPicture) -> bool
     ensures { result ≡ goes_on rows.now row.now }
 {
@@ -162,8 +163,8 @@ fn memory_after(rows: &[RowPicture]) -> &[BlockPicture]
     }
 }
 
-/// Returns whether each row is the same call as one above, with a serial n higher, and left the
-/// memory as it was.
+/// Returns whether the rows are the same calls as the rows above, one by one, with serials n
+/// higher. None may have moved a page, and the memory after each has to be `memory`.
 fn are_next(
     alloc: Global,
     n: u128,
@@ -187,8 +188,8 @@ fn are_next(
     Ok(left.is_empty())
 }
 
-/// Returns whether a row is the same call as one above, with a serial n higher, and left the memory
-/// as it was.
+/// Returns whether a row is the same call as one above, with a serial n higher. It may not have
+/// moved a page, and the memory after it has to be `memory`.
 fn is_next(
     alloc: Global,
     n: u128,
@@ -210,7 +211,7 @@ fn halves(answer: &str) -> Option<(&str, &str)>
     answer.split_once(':')
 }
 
-/// Returns the serial with which an answer begins.
+/// Returns the serial with which an answer begins, if it begins with one.
 fn serial_of(answer: &str) -> Option<u64>
     ensures { result ≡ serial_of answer.now }
 {

@@ -6,8 +6,8 @@ use Rattle.indexmap.specs.IndexMap.{insert_entry}
 use Rattle.hp_names.specs.declared.bindings.Naming.{Naming}
 use Rattle.hp_names.specs.declared.results.NamedResult.{NamedResult}
 
--- the bindings of names to results. A key is a processor's word, a space and a name; its value is the
--- latest result of this processor with this name
+-- the bindings of names to results. A key is a processor's word, a space and a name; its value is
+-- the latest result of this processor with this name
 abbrev pub Bound : Type 0
 Bound = List (List ℕ × NamedResult)
 
@@ -19,13 +19,14 @@ key_of cpu name = cpu ++ 32 ∷ name
 abbrev pub result_at : Bound → (cpu name : List ℕ) → Option NamedResult
 result_at bound cpu name = lookup (bytes_eq (key_of cpu name)) bound
 
--- the bindings after a name is bound to the result of line `line`; an earlier result of the processor
--- loses the name
+-- the bindings after a name is bound to the result of line `line`; an earlier result of the same
+-- processor loses the name
 abbrev pub bound_to : Bound → Naming → (line number : ℕ) → Bound
 bound_to bound naming line number =
     insert_entry bytes_eq bound naming.key (record { kind = naming.kind; line = line; number = number })
 
--- a result with its number, if `numbers` has it; `numbers` has the numbers of the first lines' results
+-- a result with its number, if `numbers` has it; `numbers` has the numbers of the results of the
+-- first lines
 abbrev pub numbered_result : List ℕ → NamedResult → NamedResult
 numbered_result numbers r =
     record { kind = r.kind; line = r.line; number = unwrap_or (slice_get numbers r.line) r.number }

@@ -14,30 +14,31 @@ use Rattle.hp_names.specs.Bindings.{Bound, bound_after}
 use Rattle.hp_names.specs.Plain.{plain_in}
 use Rattle.hp_names.specs.declared.plain.PlainLine.{PlainLine}
 
--- a scenario with names. For each line, `sources` has the index of the line whose result it works on;
--- such a line has 0 in place of that result's number. `bound` are the bindings of names after the last
--- line
+-- a scenario with names. For each line that works by name on the result of an earlier line,
+-- `sources` has the index of the earlier line. Such a line has 0 in place of that result's number.
+-- `bound` are the bindings of names after the last line
 pub record NamedValue : Type 0 where
   pub scenario : ScenarioValue
   pub sources : List (Option ℕ)
   pub bound : Bound
 
--- a scenario in which no line names a result
+-- a scenario without names: no line names its result, or works on a result by its name
 abbrev pub plainly : ScenarioValue → NamedValue
 plainly s = record { scenario = s; sources = replicate (length s.lines) None; bound = [] }
 
--- the owners' names, the lines, their sources, and the bindings of names so far
+-- what is read so far: the owners' names, the lines, the indices of the lines whose results they
+-- work on by name, and the bindings of names
 pub record ReadingValue : Type 0 where
   pub names : List (List ℕ)
   pub lines : List Line
   pub sources : List (Option ℕ)
   pub bound : Bound
 
--- the reading before the first line
+-- what is read before the first line
 abbrev pub nothing : ReadingValue
 nothing = record { names = []; lines = []; sources = []; bound = [] }
 
--- the reading after one more line; the number of the line's result is not known yet
+-- what is read after one more line; the number of the line's result is not known yet
 abbrev pub with_line : ReadingValue → PlainLine → Numbered → ReadingValue
 with_line r plain n = record {
   names = n.names;
@@ -46,21 +47,22 @@ with_line r plain n = record {
   bound = bound_after r.bound plain.naming (length r.lines) 0;
 }
 
--- the reading after one more line, if its text without names is a line
+-- what is read after one more line; None if its text without names is not a line
 abbrev pub with_plain : ReadingValue → PlainLine → Option ReadingValue
 with_plain r plain = option_map (with_line r plain) (line_in r.names plain.text)
 
--- the reading after one more text, if the text without its names is a line
+-- what is read after one more text; None if the text, with its names taken out, is not a line
 abbrev pub with_text : ReadingValue → List ℕ → Option ReadingValue
 with_text r text = with_plain r (plain_in r.bound text)
 
--- the reading after these texts, of which the first is line `at`, or the first fault
+-- what is read after these texts, of which the first is line `at`, or the first fault
 unfoldable pub lines_from : ℕ → ReadingValue → List (List ℕ) → Result ReadingValue ScenarioFault
 lines_from at r [] = Ok r
 lines_from at r (text ∷ texts) =
     or_fault (BadLine at) (with_text r text) >>= λ next. lines_from (at + 1) next texts
 
--- the scenario of a form, or its first fault: the layout is checked before the lines
+-- the scenario of a layout's parts and the lines' texts, or its first fault: the layout is checked
+-- before the lines
 unfoldable pub named_with : Form → Result NamedValue ScenarioFault
 named_with form = do
   layout ← layout_or form.parts (layout_fault form.parts)

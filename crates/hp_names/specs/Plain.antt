@@ -1,5 +1,5 @@
--- A line's text without names: `as NAME` is taken off, and `$NAME` is replaced by its result's number.
--- A text whose names are not understood is left unchanged, and is not a line.
+-- A line's text without names: `as NAME` is taken off, and `$NAME` is replaced by its result's
+-- number. A text whose names are not understood is left unchanged, and is not a line.
 use Rattle.std.specs.Prelude.{ℕ, List, [], ◌∷◌, Option, Some, None, if◌then◌else◌, option_and_then}
 use Rattle.std.specs.Fmt.{decimal}
 use Rattle.hp_scenario.specs.Words.{words_of}
@@ -34,8 +34,8 @@ naming_line text words cpu kind (Some name) = record {
 abbrev pub of_kind : ResultKind → NamedResult → Option NamedResult
 of_kind kind r = if same_kind r.kind kind then Some r else None
 
--- the result that the word `$NAME` names: the processor's latest result with that name, if it has this
--- kind
+-- the result that the word `$NAME` names: the processor's latest result with that name, if it has
+-- this kind
 abbrev pub result_named : Bound → (cpu : List ℕ) → ResultKind → (word : List ℕ) → Option NamedResult
 result_named bound cpu kind word =
     option_and_then (of_kind kind) (option_and_then (result_at bound cpu) (after_dollar word))
@@ -49,7 +49,8 @@ numbered_line text cpu verb rest (Some r) = record {
   naming = None;
 }
 
--- the text of a line that works on a result, with the result's number in place of its name
+-- the text of a line that works on a result, with the result's number in place of its name;
+-- unchanged if the line gives no name of such a result
 abbrev pub working_line : Bound → (text cpu verb : List ℕ) → ResultKind → (args : List (List ℕ)) → PlainLine
 working_line bound text cpu verb kind [] = unchanged text
 working_line bound text cpu verb kind (word ∷ rest) =
@@ -57,7 +58,7 @@ working_line bound text cpu verb kind (word ∷ rest) =
 
 -- ---- any line
 
--- the text without names of a line whose verb uses names in this way
+-- a line's text without names; the last argument is how lines of its verb use names
 abbrev pub line_by_use : Bound → (text cpu verb : List ℕ) → (args : List (List ℕ)) → Option NameUse
     → PlainLine
 line_by_use bound text cpu verb args None = unchanged text
@@ -65,13 +66,13 @@ line_by_use bound text cpu verb args (Some (Gives kind)) =
     naming_line text (cpu ∷ verb ∷ args) cpu kind (name_at_end args)
 line_by_use bound text cpu verb args (Some (Takes kind)) = working_line bound text cpu verb kind args
 
--- the line in a text of these words, after these bindings
+-- the text of these words without names; `bound` has the names of results of the lines before it
 unfoldable pub plain_of : Bound → (text : List ℕ) → (words : List (List ℕ)) → PlainLine
 plain_of bound text [] = unchanged text
 plain_of bound text (cpu ∷ []) = unchanged text
 plain_of bound text (cpu ∷ verb ∷ args) =
     line_by_use bound text cpu verb args (use_of_verb verb)
 
--- the line in a text, after these bindings
+-- a text without its names; `bound` has the names of results of the lines before it
 abbrev pub plain_in : Bound → List ℕ → PlainLine
 plain_in bound text = plain_of bound text (words_of text)

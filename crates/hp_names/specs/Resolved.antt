@@ -1,4 +1,5 @@
--- Named results are replaced by their numbers, which are known once the first lines have run in order.
+-- Named results are replaced by their numbers, which are known once the first lines have run in
+-- order. The source of a line is the index of the line whose result it works on by name.
 use Rattle.std.specs.Prelude.{◌≡◌, ◌⊎◌, ℕ, List, [], ◌∷◌, ◌++◌, take, drop, Bool, false, Option, Some, None, map, min, nat_lt, slice_get}
 use Rattle.std.specs.List.{list_any}
 use Rattle.hp_units.specs.declared.events.Event.{Event}
@@ -38,21 +39,22 @@ abbrev pub line_with : Option ℕ → Line → Line
 line_with None line = line
 line_with (Some n) line = record line { work = work_with n line.work }
 
--- the number of a source's result, if `numbers` has it
+-- the number of the result of the line at index `place`, if `numbers` has it
 abbrev pub number_at : List ℕ → Option ℕ → Option ℕ
 number_at numbers None = None
 number_at numbers (Some place) = slice_get numbers place
 
--- the line with the number of its source's result, if `numbers` has it
+-- the line with the number of the result that it works on, if `numbers` has it; `source` is the
+-- index of the line with that result
 abbrev pub line_after : List ℕ → Option ℕ → Line → Line
 line_after numbers source line = line_with (number_at numbers source) line
 
--- the source, unless its result's number is known
+-- the source (the index of a line), unless the number of that line's result is known
 abbrev pub left_if : Option ℕ → Option ℕ → Option ℕ
 left_if None source = source
 left_if (Some n) source = None
 
--- the source, unless `numbers` has its result's number
+-- the source (the index of a line), unless `numbers` has the number of that line's result
 abbrev pub source_after : List ℕ → Option ℕ → Option ℕ
 source_after numbers source = left_if (number_at numbers source) source
 
@@ -63,19 +65,21 @@ abbrev pub first_source : List (Option ℕ) → Option ℕ
 first_source [] = None
 first_source (source ∷ sources) = source
 
--- the lines, each with the number of its source's result, if `numbers` has it
+-- the lines; each that works on an earlier line's result by name gets the number of that result, if
+-- `numbers` has it
 abbrev pub lines_after : List ℕ → List (Option ℕ) → List Line → List Line
 lines_after numbers sources [] = []
 lines_after numbers sources (line ∷ lines) =
     line_after numbers (first_source sources) line ∷ lines_after numbers (drop 1 sources) lines
 
--- the sources, with None in place of each whose result's number is in `numbers`
+-- the sources (indices of lines), with None in place of each for which `numbers` has that line's
+-- result
 abbrev pub sources_after : List ℕ → List (Option ℕ) → List (Option ℕ)
 sources_after numbers sources = map (source_after numbers) sources
 
--- the lines were run in order, each with the number of its source's result, if the source ran
--- before it. `ran` are the lines as they were run. `before` and `after` are the numbers of all
--- results so far, before and after these lines
+-- the lines were run in order. Each that works by name on a result in `before`, or on that of an
+-- earlier one of these lines, got the result's number. `ran` are the lines as they were run.
+-- `before` and `after` are the numbers of all results so far, before and after these lines
 abbrev pub RunsFront : MachineValue → (before : List ℕ) → List (Option ℕ) → (lines ran : List Line)
     → (new : MachineValue) → (after : List ℕ) → Type 0
 RunsFront m before sources [] ran new after = (ran ≡ []) × (new ≡ m) × (after ≡ before)
@@ -85,14 +89,14 @@ RunsFront m before sources (line ∷ lines) ran new after =
     × RunsLine m (line_after before (first_source sources) line) next number
     × RunsFront next (before ++ number ∷ []) (drop 1 sources) lines more new after
 
--- the source is one of the first `count` lines
+-- the source (the index of a line) is below `count`; false without a source
 abbrev pub is_below : (count : ℕ) → Option ℕ → Bool
 is_below count None = false
 is_below count (Some place) = nat_lt place count
 
--- the first `count` lines were run in order on a machine just booted. A line whose source is one of
--- them has the number of the source's result, and no source any more. A name that is bound to one
--- of these results has its number
+-- the first `count` lines were run in order on a machine just booted. A line whose source (the
+-- index of a line) is one of these has the number of the source's result, and no source any more. A
+-- name that is bound to a result of these lines has its number
 pub record PutsNumbers (l : LayoutParts) (count : ℕ) (lines : List Line) (sources : List (Option ℕ))
     (bound : Bound) (new_lines : List Line) (new_sources : List (Option ℕ)) (new_bound : Bound)
     : Type 0 where
@@ -104,7 +108,8 @@ pub record PutsNumbers (l : LayoutParts) (count : ℕ) (lines : List Line) (sour
   pub sources_are : new_sources ≡ sources_after numbers sources
   pub bound_is : new_bound ≡ numbered numbers bound
 
--- a scenario whose first `count` lines were run in this way; its layout and its owners' names stay
+-- the first `count` lines of a scenario were run, and the numbers of their results put into its
+-- lines and its names; its layout and its owners' names stay
 pub record IsResolved (count : ℕ) (old new : NamedValue) : Type 0 where
   pub layout : new.scenario.layout ≡ old.scenario.layout
   pub names : new.scenario.names ≡ old.scenario.names
@@ -112,8 +117,9 @@ pub record IsResolved (count : ℕ) (old new : NamedValue) : Type 0 where
       PutsNumbers old.scenario.layout count old.scenario.lines old.sources old.bound new.scenario.lines
       new.sources new.bound
 
--- the scenario with numbers in place of its names. Nothing is run if no result has a name and none of
--- the first `count` lines is a source
+-- the scenario after the first `count` lines were run and the numbers of their results put into its
+-- lines and names. Nothing is run if no result has a name and no line works on a result of the
+-- first `count` lines
 abbrev pub Resolves : (count : ℕ) → (old new : NamedValue) → Type 0
 Resolves count old new =
     ((old.bound ≡ []) × (list_any (is_below count) old.sources ≡ false) × (new ≡ old))

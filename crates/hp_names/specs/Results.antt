@@ -47,8 +47,8 @@ abbrev pub frame_number : Reply → ℕ
 frame_number (reply.Frame frame) = frame
 frame_number r = no_frame
 
--- the number of a call's result. A Begin's is its serial, which numbers the operation, even if it was
--- refused. A KernelAlloc's is its frame, or `no_frame` if it was refused. Any other call's is 0
+-- the number of a call's result. A Begin's is its serial, which numbers the operation, even if it
+-- was refused. A KernelAlloc's is its frame, or `no_frame` if it was refused. Any other call's is 0
 abbrev pub result_number : Event → (serial : ℕ) → Reply → ℕ
 result_number (Begin plan) serial r = serial
 result_number (KernelAlloc order) serial r = frame_number r

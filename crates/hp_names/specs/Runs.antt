@@ -13,8 +13,8 @@ use Rattle.hp_scenario.specs.Asked as asks
 use Rattle.hp_scenario.specs.declared.lines.Line.{Line}
 use Rattle.hp_names.specs.Results.{missing_number, result_number}
 
--- one call was made with an event, and its result has this number. If the history is full, the machine
--- stays as it is
+-- one call was made with an event, and its result has this number. If the history is full, the
+-- machine stays as it is
 abbrev pub RunsEvent : MachineValue → (cpu : ℕ) → Event → (new : MachineValue) → (number : ℕ) → Type 0
 RunsEvent m cpu event new number =
     ((is_full m ≡ true) × (new ≡ m) × (number ≡ missing_number event))
@@ -36,8 +36,8 @@ abbrev pub RunsPlan : MachineValue → (cpu turns : ℕ) → List Item → (new 
 RunsPlan m cpu turns plan new =
     (end : OpEnd) × IsPlanRun m cpu turns plan end new × (is_out_of_memory end ≡ false)
 
--- a line's work was done, and its result has this number, which is 0 for all but an event. A text that
--- a control file does not take changes nothing
+-- a line's work was done, and its result has this number, which is 0 for all but an event. A text
+-- that a control file does not take changes nothing
 abbrev pub RunsAsked : MachineValue → (cpu : ℕ) → asks.Meaning → (new : MachineValue) → (number : ℕ) → Type 0
 RunsAsked m cpu (asks.event e) new number = RunsEvent m cpu e new number
 RunsAsked m cpu (asks.plan items turns) new number = RunsPlan m cpu turns items new × (number ≡ 0)

@@ -13,7 +13,7 @@ use std::marker::Model;
 /// A name that a line gives its result.
 #[derive(Drop)]
 pub struct Naming {
-    /// The processor's word, a space, and the name.
+    /// The processor's number as the line has it, a space, and the name.
     pub key: Text,
     /// What the result is.
     pub kind: ResultKind,
@@ -79,7 +79,8 @@ impl Bindings {
         Some(key.as_str())
     }
 
-    /// Fills in the numbers of the results of the first lines: `numbers[n]` is that of line `n`.
+    /// Fills in the numbers of the results of the first lines. `numbers[n]` is the number of the
+    /// result of line `n`, counted from 0.
     pub(crate) fn number(&mut self, numbers: &[u64])
         ensures { self.new ≡ spec.numbered numbers.now self.old }
     {
@@ -115,7 +116,7 @@ fn numbered(found: NamedResult, numbers: &[u64]) -> NamedResult
     NamedResult { number, ..found }
 }
 
-/// Returns a processor's word, a space, and a name.
+/// Returns the key of a name: the processor's word, a space, and the name.
 pub(crate) fn key_of(alloc: Global, cpu: &str, name: &str) -> Result<Text, AllocError>
     ensures { IfOk result (λ key. key ≡ spec.key_of cpu.now name.now) }
 {

@@ -6,7 +6,7 @@ ghost use Rattle.hp_scenario.specs.declared.fault.ScenarioFault.{ScenarioFault};
 ghost use Rattle.hp_scenario.specs.declared.fault.ScenarioFault.TheVariants.{BadLine};
 
 /// A text that is a scenario by the rules without names is the same scenario by the rules with
-/// names, and none of its lines works on a result by its name. A text that is no scenario has the
+/// names. None of its lines then works on a result by its name. A text that is no scenario has the
 /// same fault by both rules, unless the fault is that of a line. So names add meaning only to a
 /// text with a line that is not understood without them.
 pub fn scenarios_without_names_are_read_alike()

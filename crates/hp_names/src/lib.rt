@@ -1,9 +1,9 @@
 //! Names for the results of a scenario's lines, as `hotplug_lab` reads them.
 //!
 //! A `begin` or a `kalloc` may end in ` as NAME`. In a later line of the same processor, `$NAME`
-//! then stands for the number of the operation or of the frame. The crate owns which names a text
-//! may have, the plain text of a line without them, the scenario in a text with names, and the
-//! numbers that the results of a scenario's first lines have when these are run in order.
+//! then means the number of the operation or of the frame. The crate defines which names a text may
+//! have, the plain text of a line without them, and the scenario in a text with names. It also
+//! finds the numbers of the results of a scenario's first lines, by running these in order.
 //! hp_scenario defines what a line without names is.
 //!
 //! Read specs/Plain first, then specs/Named and specs/Resolved.

@@ -57,13 +57,13 @@ impl Sources {
     }
 }
 
-/// A scenario, and the lines that work on the results of earlier ones. Such a line has 0 in place
-/// of the result's number.
+/// A scenario whose lines may use names for results. A line that works on an earlier line's result
+/// by its name has 0 in place of the result's number.
 #[derive(Drop)]
 pub struct NamedScenario {
     /// The scenario.
     pub scenario: Scenario,
-    /// The source of each line.
+    /// For each line, the index of the earlier line whose result it works on by name, if it does.
     pub sources: Sources,
     /// What names are bound to after the last line.
     pub bound: Bindings,
@@ -73,7 +73,7 @@ impl NamedScenario {
     /// Reads a scenario whose lines may have names for their results. A text without names is read
     /// as by [`Scenario::read`], and just as fast if it has no `$` byte.
     ///
-    /// A line whose names are not understood is not a line.
+    /// A text whose names are not understood is not a line.
     pub fn read(alloc: Global, bytes: &[u8]) -> Result<NamedScenario, ScenarioFault>
         ensures { Gives named_seen result (named_in bytes.now) }
     {
@@ -90,7 +90,7 @@ impl NamedScenario {
     }
 }
 
-/// Returns a scenario in which no line has a source.
+/// Returns a scenario without names: no line works on a result by its name.
 fn without_names(alloc: Global, scenario: Scenario) -> Result<NamedScenario, AllocError>
     ensures { IfOk result (λ named. named_seen named ≡ plainly (scenario_seen scenario)) }
 {

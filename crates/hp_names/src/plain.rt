@@ -16,7 +16,7 @@ pub struct PlainLine {
     /// The text, without ` as NAME`, and with a number in place of `$NAME`. Unchanged if there is
     /// no name, or if the name is not understood; in the second case the text is not a line.
     pub text: Text,
-    /// The place of the line whose result the name after `$` stands for.
+    /// The index of the line whose result the name after `$` means.
     pub source: Option<usize>,
     /// The name of the line's own result.
     pub naming: Option<Naming>,
@@ -64,7 +64,7 @@ fn unchanged(alloc: Global, text: &str) -> Result<PlainLine, AllocError>
     })
 }
 
-/// Takes `as` and the name off a text that ends in one.
+/// Takes ` as NAME` off the end of a text. Returns the text unchanged if no name is at its end.
 fn naming_line(
     alloc: Global,
     text: &str,
@@ -95,7 +95,8 @@ fn before_name<'a, 'b>(words: &'b [&'a str]) -> &'b [&'a str]
     &words[..words.len().saturating_sub(2)]
 }
 
-/// Replaces the first word after the verb by a number, if it names a result of this kind.
+/// Replaces the first word after the verb by the number of the result of this kind that it names.
+/// Returns the text unchanged if the word names none.
 fn working_line(
     alloc: Global,
     text: &str,
@@ -117,7 +118,7 @@ fn working_line(
     }
 }
 
-/// Returns the result of this kind that a word names.
+/// Returns the result of this kind that a word names, if it names one.
 fn result_named(
     alloc: Global,
     bound: &Bindings,

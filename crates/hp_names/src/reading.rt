@@ -14,7 +14,8 @@ use indexmap::IndexSet;
 use std::alloc::{AllocError, Global};
 use std::marker::Model;
 
-/// The owners' names, the lines and their sources so far, and what names are bound to.
+/// What is read so far: the owners' names, the lines, and what names are bound to. For each line,
+/// `sources` has the index of the line whose result it works on by name, if it does.
 #[derive(Drop)]
 pub(crate) struct Reading {
     names: IndexSet<Text>,
@@ -49,7 +50,7 @@ impl Reading {
         }
     }
 
-    /// Appends the lines in the texts. No line was appended before.
+    /// Appends the lines in the texts, as the first lines.
     pub(crate) fn add_all(&mut self, alloc: Global, texts: &Texts<'_>) -> Result<(), ScenarioFault>
         requires { self.old ≡ nothing }
         ensures { Gives (λ _. self.new) result (lines_from 1 nothing texts.now) }
@@ -63,7 +64,8 @@ impl Reading {
         Ok(())
     }
 
-    /// Appends the line in a text. Returns `false` if the text without its names is not a line.
+    /// Appends the line in a text. Returns `false` if the text, with its names taken out, is not a
+    /// line.
     fn add(&mut self, alloc: Global, text: &str) -> Result<bool, AllocError>
         ensures { IfOk result
             (λ is_line. with_text self.old text.now ≡ (if is_line then Some self.new else None)) }
@@ -76,7 +78,8 @@ impl Reading {
         Ok(true)
     }
 
-    /// Appends a line with its source, and binds the name of its result.
+    /// Appends a line and its source (the index of the line whose result it works on by name), and
+    /// binds the name of its own result.
     fn keep(
         &mut self,
         line: Line,

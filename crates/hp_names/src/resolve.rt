@@ -15,9 +15,9 @@ use hp_units::{Event, Frame, Layout, Serial};
 use std::alloc::{AllocError, Global};
 
 /// Runs the first `count` lines in order on a machine just booted, as `hotplug serial` does. Puts
-/// the number of each result into the lines that work on it, which then have no source, and into
-/// the names that later lines may use. Runs nothing if no result has a name and no line works on a
-/// result of the first `count` lines.
+/// the number of each result into the lines that work on it by name, and into the names that later
+/// lines may use. For a line that got a number, `sources` then has `None`. Runs nothing if no
+/// result has a name and no line works on a result of the first `count` lines.
 pub fn resolve_front(
     alloc: Global,
     named: NamedScenario,
@@ -84,14 +84,14 @@ fn front_len(len: usize, count: u64) -> usize
     }
 }
 
-/// Returns whether one of the first `count` lines is a source.
+/// Returns whether any line works by name on a result of the first `count` lines.
 fn is_any_below(sources: &[Option<usize>], count: u64) -> bool
     ensures { result ≡ list_any (spec.is_below count) sources.now }
 {
     sources.iter().any(|source| is_below(*source, count))
 }
 
-/// Returns whether a source is one of the first `count` lines.
+/// Returns whether there is a source (the index of a line), and it is below `count`.
 fn is_below(source: Option<usize>, count: u64) -> bool
     ensures { result ≡ spec.is_below count source }
 {
@@ -101,8 +101,9 @@ fn is_below(source: Option<usize>, count: u64) -> bool
     }
 }
 
-/// Runs the first `front` lines on a machine just booted, after putting the number of its source
-/// into each. Returns the numbers of their results.
+/// Runs the first `front` lines on a machine just booted. Before a line runs, it gets the number of
+/// the result that it works on by name, if it does. Returns the numbers of the results of all these
+/// lines.
 fn run_front(
     alloc: Global,
     layout: &Layout,
@@ -126,7 +127,8 @@ fn run_front(
     Ok(numbers)
 }
 
-/// Puts the numbers of sources into the lines from a place on.
+/// Puts numbers of results into the lines from index `from` on: into each line that works by name
+/// on a result whose number is known.
 fn put_numbers(lines: &mut [Line], sources: &[Option<usize>], from: usize, numbers: &[u64])
     requires { from ≤ length lines.old }
     ensures { lines.new ≡ take from lines.old
@@ -138,7 +140,8 @@ fn put_numbers(lines: &mut [Line], sources: &[Option<usize>], from: usize, numbe
     }
 }
 
-/// Takes away each source whose number is known.
+/// Replaces each source (the index of a line) by `None` if `numbers` has the number of that line's
+/// result.
 fn take_away(sources: &mut [Option<usize>], numbers: &[u64])
     ensures { sources.new ≡ spec.sources_after numbers.now sources.old }
 {
@@ -149,7 +152,8 @@ fn take_away(sources: &mut [Option<usize>], numbers: &[u64])
     }
 }
 
-/// Returns the source of the line at `index`, or `None` if it has none.
+/// Returns the source of the line at `index`: the index of the line whose result it works on by
+/// name. Returns `None` if it has no source.
 fn source_at(sources: &[Option<usize>], index: usize) -> Option<usize>
     ensures { result ≡ spec.first_source (drop index sources.now) }
 {
@@ -160,7 +164,7 @@ fn source_at(sources: &[Option<usize>], index: usize) -> Option<usize>
     }
 }
 
-/// Returns the number of a source, if it is known.
+/// Returns the number of the result of the line at index `source`, if `numbers` has it.
 fn number_at(numbers: &[u64], source: Option<usize>) -> Option<u64>
     ensures { result ≡ spec.number_at numbers.now source }
 {
@@ -170,7 +174,7 @@ fn number_at(numbers: &[u64], source: Option<usize>) -> Option<u64>
     }
 }
 
-/// Puts a number, if there is one, into a line that works on a result.
+/// Puts a number, if there is one, into a line as the number of the result that it works on.
 fn put_number(line: &mut Line, number: Option<u64>)
     ensures { line.new ≡ spec.line_with number line.old }
 {

@@ -18,7 +18,7 @@ pub enum ResultKind {
 pub(crate) enum NameUse {
     /// A line's result is of this kind, and may have a name.
     Gives(ResultKind),
-    /// The number after the verb is that of such a result, and a name may take its place.
+    /// The number after the verb is that of a result of this kind, and a name may take its place.
     Takes(ResultKind),
 }
 
@@ -27,7 +27,7 @@ pub(crate) enum NameUse {
 pub struct NamedResult {
     /// What it is.
     pub kind: ResultKind,
-    /// The place of its line, counted from 0.
+    /// The index of the line that has the result.
     pub line: usize,
     /// The number of the operation or the frame; 0 while it is not known.
     pub number: u64,
@@ -74,8 +74,9 @@ pub(crate) fn use_of_verb(verb: &str) -> Option<NameUse>
     }
 }
 
-/// Returns the number of a call's result: for a `Begin` its operation, even if it was refused; for
-/// a `KernelAlloc` its frame, or 4294967295, which no layout has, if it was refused; otherwise 0.
+/// Returns the number of a call's result. For a `Begin` it is the number of the operation, even if
+/// it was refused. For a `KernelAlloc` it is the frame, or 4294967295, which no layout has, if it
+/// was refused. For any other call it is 0.
 pub fn result_number(event: &Event, serial: Serial, reply: &Reply) -> u64
     ensures { result ≡ spec.result_number event.now serial reply.now }
 {
@@ -96,8 +97,9 @@ fn frame_number(reply: &Reply) -> u64
     }
 }
 
-/// Returns the number of the result of a call that made no record, since the history was full: an
-/// operation that no machine has, or a frame that no layout has; otherwise 0.
+/// Returns the number of the result of a call that made no record, since the history was full. For
+/// a `Begin` it is an operation that no machine has, and for a `KernelAlloc` a frame that no layout
+/// has. For any other call it is 0.
 pub fn missing_number(event: &Event) -> u64
     ensures { result ≡ spec.missing_number event.now }
 {

@@ -8,7 +8,7 @@ use Rattle.std.specs.Str.Parse.{digits_value}
 abbrev pub is_bare : List ℕ → Bool
 is_bare word = not (slice_index word 0 == 43) && (nat_lt (length word) 2 || not (slice_index word 0 == 48))
 
--- one digit or more
+-- only digits, and at least one
 abbrev pub is_digits : List ℕ → Bool
 is_digits word = all_ascii_digits word && nat_lt 0 (length word)
 
@@ -21,7 +21,8 @@ digits_in bits word =
 unfoldable pub number_of : ℕ → List ℕ → Option ℕ
 number_of bits word = if is_bare word then digits_in bits word else None
 
--- a word is a number exactly if it is the number's decimal digits, and the number fits
+-- for up to 64 bits, a word is read as a number exactly if it is the decimal digits of the number,
+-- which is below 2 ^ bits
 abbrev pub NumbersAreSpelled : Type 0
 NumbersAreSpelled =
     (bits : ℕ) (word : List ℕ) (n : ℕ) → bits ≤ 64

@@ -33,7 +33,8 @@ pub fn number64(word: &str) -> Option<u64>
     word.parse::<u64>().ok()
 }
 
-/// A word is a number exactly if it is the number's decimal digits, and the number fits.
+/// For up to 64 bits, a word is read as a number exactly if it is the decimal digits of the number,
+/// which is below 2^bits.
 pub fn numbers_are_spelled()
     ensures { NumbersAreSpelled }
 {}

@@ -10,7 +10,7 @@ pub record PortValue : Type 0 where
   pub fault : Option CallFault
   pub cpus : ℕ
 
--- the same with further receipts, and with the fault of the last call
+-- what a port shows after further receipts, with the fault of its last call
 abbrev pub with_receipts : PortValue → List Receipt → Option CallFault → PortValue
 with_receipts p gained fault = record { receipts = p.receipts ++ gained; fault = fault; cpus = p.cpus }
 
@@ -24,11 +24,11 @@ has_opened receipts = list_any (λ r. is_opened r.reply) receipts
 
 -- ---- the replies that a driver meets
 
--- to a Begin
+-- a reply to a Begin
 abbrev pub IsBeginReply : Reply → Type 0
 IsBeginReply reply = ((op : ℕ) × (reply ≡ Opened op)) ⊎ ((refusal : Refusal) × (reply ≡ Refused refusal))
 
--- to the events of an operation that is live
+-- a reply to a Migrate, a Commit or a Cancel of an operation that is live, and to any of its events
 abbrev pub IsMigrateReply : Reply → Type 0
 IsMigrateReply reply =
     ((from : ℕ) × (to : ℕ) × (reply ≡ Moved from to))
@@ -47,7 +47,7 @@ IsLiveReply cpus (Commit op) reply = IsCommitReply reply
 IsLiveReply cpus (Cancel op) reply = IsCancelReply reply
 IsLiveReply cpus event reply = ⊤
 
--- to the events of any operation
+-- a reply to an event of an operation, live or not
 abbrev pub IsDriverReply : (cpus : ℕ) → Event → Reply → Type 0
 IsDriverReply cpus event reply = (reply ≡ Refused NoOp) ⊎ IsLiveReply cpus event reply
 
@@ -60,7 +60,7 @@ pub record IsGiven (old : PortValue) (event : Event) (r : Receipt) (new : PortVa
   pub begun : (plan : List Item) → event ≡ Begin plan → IsBeginReply r.reply
   pub known : has_opened old.receipts ≡ true → IsDriverReply old.cpus event r.reply
 
--- a call gave a reply: that of one receipt, and it made the new port of the old
+-- a call gave a reply: it added one receipt with this reply, and made the new port of the old
 pub record IsReplied {S : Type 0} (shows : S → PortValue) (makes : S → List Receipt → S → Type 0) (old : S)
     (event : Event) (reply : Reply) (new : S) : Type 0 where
   pub receipt : Receipt
@@ -68,14 +68,14 @@ pub record IsReplied {S : Type 0} (shows : S → PortValue) (makes : S → List 
   pub given : IsGiven (shows old) event receipt (shows new)
   pub made : makes old (receipt ∷ []) new
 
--- calls gave these receipts; if there is a fault, one more call left it
+-- calls gave these receipts; if there is a fault, one more call failed with it
 abbrev pub AreMade : {S : Type 0} → (makes : S → List Receipt → S → Type 0)
     → (leaves : S → CallFault → S → Type 0) → S → List Receipt → Option CallFault → S → Type 0
 AreMade makes leaves old gained None new = makes old gained new
 AreMade {S} makes leaves old gained (Some fault) new =
     (last : S) × makes old gained last × leaves last fault new
 
--- calls gave further receipts, of which `P` holds, and at most the last call left a fault
+-- calls gave further receipts, of which `P` holds, and at most the last call failed
 pub record Gains {S : Type 0} (shows : S → PortValue) (makes : S → List Receipt → S → Type 0)
     (leaves : S → CallFault → S → Type 0) (old : S) (fault : Option CallFault) (new : S)
     (P : List Receipt → Type 0) : Type 0 where

@@ -39,8 +39,8 @@ abbrev pub is_over : Stage → Bool
 is_over (Ended end) = true
 is_over stage = false
 
--- a stage by two numbers: which stage it is, with the processor of a drain, and the operation that it
--- works on, or 0
+-- a stage by two numbers: which stage it is, with the processor of a drain; and the operation that
+-- it works on, or 0
 abbrev pub stage_number : Stage → ℕ
 stage_number Begins = 0
 stage_number (Migrates op) = 1
@@ -89,11 +89,12 @@ Follows cpus left event reply stage =
     (turns : ℕ) (plan : List Item) (receipts : List Receipt) → Leaves turns left receipts
     → event_in plan stage ≡ next_after cpus turns receipts event reply
 
--- it has the end that the reply makes
+-- the stage has the end that the reply makes
 abbrev pub EndsAs : Option Refusal → Event → Reply → Stage → Type 0
 EndsAs why event reply stage = end_in stage ≡ end_after why event reply
 
--- it is the drain of a round for a processor, or a turn after the last one
+-- the stage is the drain of a round for a processor; after the last one it is a migration, or a
+-- cancel if no more may be tried
 abbrev pub IsRound : (cpus left op cpu : ℕ) → Stage → Type 0
 IsRound cpus left op cpu stage =
     (turns : ℕ) (plan : List Item) (receipts : List Receipt) → Leaves turns left receipts

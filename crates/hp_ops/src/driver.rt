@@ -12,11 +12,11 @@ use std::alloc::Global;
 /// Carries out a plan through a port, with at most `turns` migrations (Linux, memory hotplug:
 /// offlining). After a Begin it drains each processor's lists, then migrates page after page; when
 /// no page is left to move, it commits. If no frame can be had, or the commit finds a frame in use,
-/// it drains again. When its turns are used up, it cancels.
+/// it drains again. When it has tried `turns` migrations, it cancels instead of trying another.
 ///
 /// Allocates only in the port's calls, and makes no call after one that failed. The end is `Left`
-/// if a call failed, without an operation if that was the Begin, and `Undone` if the operation is
-/// no longer live.
+/// if a call failed; it has no operation if that call was the Begin. The end is `Undone` if the
+/// operation is no longer live.
 pub fn run_plan<P: Port>(alloc: Global, port: &mut P, plan: Plan, turns: u32) -> OpEnd
     requires { (P.shows port.old).fault ≡ None }
     ensures { Gains P.shows P.makes P.leaves port.old (P.shows port.new).fault port.new

@@ -1,6 +1,6 @@
 //! The driver of a plan: begins an operation, drains and migrates until the operation can commit,
-//! and cancels it when its turns are used up. Calls any `Port`, and knows no machine. Read `port`
-//! first, then `driver`.
+//! and cancels it rather than try more migrations than it may. Calls any `Port`, and knows no
+//! machine. Read `port` first, then `driver`.
 #![tactic(auto)]
 
 mod driver;

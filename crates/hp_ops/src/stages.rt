@@ -183,8 +183,8 @@ impl Driver {
         }
     }
 
-    /// Returns the stage after a drain that was done: the next processor's drain, or a turn after
-    /// the last one.
+    /// Returns the stage after a drain that was done: the next processor's drain. After the last
+    /// processor it is a migration, or a cancel if no more may be tried.
     fn after_drain(&self, op: Serial, cpu: Cpu, reply: &Reply) -> Stage
         ensures next { Follows self.now.cpus self.now.left (DrainFor op cpu) reply.now result }
         ensures end { EndsAs self.now.why (DrainFor op cpu) reply.now result }
@@ -196,8 +196,9 @@ impl Driver {
         }
     }
 
-    /// Returns the stage after a migration: a turn if a page moved, a round of drains if no frame
-    /// can be had, and the commit if no page is left.
+    /// Returns the stage after a migration: a round of drains if no frame can be had, and the
+    /// commit if no page is left. If a page moved, it is another migration, or a cancel if no more
+    /// may be tried.
     fn after_migrate(&self, op: Serial, reply: &Reply) -> Stage
         ensures next { Follows self.now.cpus self.now.left (Migrate op) reply.now result }
         ensures end { EndsAs self.now.why (Migrate op) reply.now result }
@@ -247,7 +248,8 @@ impl Driver {
         }
     }
 
-    /// Returns the drain of a round for a processor, or a turn after the last one.
+    /// Returns the drain of a round for a processor. After the last processor, returns a migration,
+    /// or a cancel if no more may be tried.
     fn round(&self, op: Serial, cpu: u32) -> Stage
         ensures next { IsRound self.now.cpus self.now.left op cpu result }
         ensures end { end_in result ≡ None }

@@ -131,9 +131,11 @@ two_changed b c n at also x y lt also_lt apart here there others =
       | inr other ↦
           elim (cases_eq k at) [
             | inl same ↦ ap c same ∙ (here ∙ sym (get_or-set_other once also k y None other
-                ∙ (ap (λ (i : ℕ). get_or once i None) same ∙ get_or-set_same bs at x None (omega (arith, len, lt)))))
-            | inr too ↦ others k within too other ∙ sym (get_or-set_other once also k y None other ∙ (get_or-set_other
-                bs at k x None too ∙ get_or-map-range_with_len b 0 n k k None within (omega arith)))
+                ∙ (ap (λ (i : ℕ). get_or once i None) same
+                ∙ get_or-set_same bs at x None (omega (arith, len, lt)))))
+            | inr too ↦ others k within too other ∙ sym (get_or-set_other once also k y None other
+                ∙ (get_or-set_other bs at k x None too
+                ∙ get_or-map-range_with_len b 0 n k k None within (omega arith)))
           ]
     ]))
 

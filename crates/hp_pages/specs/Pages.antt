@@ -66,22 +66,24 @@ words_row l v owner = map (option_map (words_in l v)) (slice_index_or v.table ow
 abbrev pub pages_of : LayoutParts → PageFrames → Pages
 pages_of l v = record { table = v.table; contents = map (λ row. map (option_map (words_in l v)) row) v.table }
 
--- a page is mapped to a frame; it is unmapped, and the frame's buffer leaves
+-- a page is mapped to a frame
 abbrev pub map_frame : PageFrames → (owner page frame : ℕ) → PageFrames
 map_frame v owner page frame = record v { table = with_entry v.table owner page (Some frame) }
 
+-- a page is unmapped from its frame, and the frame's buffer is dropped
 abbrev pub unmap_from : PageFrames → (owner page frame : ℕ) → PageFrames
 unmap_from v owner page frame =
     record { table = with_entry v.table owner page None; buffers = slice_set v.buffers frame None }
 
+-- a page is unmapped from whichever frame holds it
 abbrev pub unmap_frame : PageFrames → (owner page : ℕ) → PageFrames
 unmap_frame v owner page = option_map_or (unmap_from v owner page) (entry_of v.table owner page) v
 
--- one word changes in a frame, and in a page's frame; a frame keeps a buffer only while a word is
--- not 0
+-- one word changes in a frame; afterwards the frame has a buffer only if one of its words is not 0
 abbrev pub write_at : LayoutParts → PageFrames → (frame index value : ℕ) → PageFrames
 write_at l v frame index value = with_buffer v frame (buffer_for (slice_set (words_in l v frame) index value))
 
+-- one word changes in a page's frame
 abbrev pub write_frame : LayoutParts → PageFrames → (owner page index value : ℕ) → PageFrames
 write_frame l v owner page index value =
     option_map_or (λ frame. write_at l v frame index value) (entry_of v.table owner page) v
@@ -95,30 +97,32 @@ change_at l v frame index value =
 abbrev pub needs_buffer : Option (List ℕ) → (value : ℕ) → Bool
 needs_buffer buffer value = not (is_some buffer) && not (value == 0)
 
--- what a write of a word in a frame, and in a page's frame, needs
+-- what a write of a word in a frame needs
 abbrev pub prepared_at : LayoutParts → PageFrames → (index value frame : ℕ) → PreparedWrite
 prepared_at l v index value frame =
     if needs_buffer (buffer_of v frame) value
     then Fill (fresh_words l)
     else Change (change_at l v frame index value)
 
+-- what a write of a word in a page's frame needs
 abbrev pub prepared_for : LayoutParts → PageFrames → (owner page index value : ℕ) → PreparedWrite
 prepared_for l v owner page index value =
     prepared_at l v index value (unwrap_or (entry_of v.table owner page) 0)
 
--- the buffers of two frames are swapped, and a page moves from one frame to another (Linux, memory
--- hotplug: migration)
+-- the buffers of two frames are swapped
 abbrev pub swap_buffers : PageFrames → (a b : ℕ) → PageFrames
 swap_buffers v a b = with_buffer (with_buffer v a (buffer_of v b)) b (buffer_of v a)
 
+-- a page moves from one frame to another (Linux, memory hotplug: migration)
 abbrev pub move_entry : PageFrames → (owner page from to : ℕ) → PageFrames
 move_entry v owner page from to =
     record (swap_buffers v from to) { table = with_entry v.table owner page (Some to) }
 
+-- the page at a frame moves to another frame
 abbrev pub move_frame : PageFrames → (from to : ℕ) → PageFrames
 move_frame v from to = option_map_or (λ page. move_entry v page.0 page.1 from to) (page_from 0 v.table from) v
 
--- a delta that moves no buffer out of the journal
+-- the delta holds no buffer
 abbrev pub IsInPlace : Delta → Type 0
 IsInPlace (Emptied frame words) = ⊥
 IsInPlace delta = Unit {0}

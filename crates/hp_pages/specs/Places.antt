@@ -23,12 +23,13 @@ place_of pages owner page = 1 + owner * pages + page
 abbrev pub held : ℕ → Option ℕ → ℕ → ℕ
 held frame entry place = if holds frame entry then place else 0
 
--- the sum of the places in a row at which the frame is, if the row begins at `place`; the same for
--- a table
+-- the sum of the places of a row's pages that are mapped to the frame; the row begins at `place`
 abbrev pub row_sum : (place : ℕ) → List (Option ℕ) → (frame : ℕ) → ℕ
 row_sum place [] frame = 0
 row_sum place (entry ∷ row) frame = held frame entry place + row_sum (place + 1) row frame
 
+-- the sum of the places of a table's pages that are mapped to the frame; the table begins at
+-- `place`
 abbrev pub table_sum : (pages place : ℕ) → List (List (Option ℕ)) → (frame : ℕ) → ℕ
 table_sum pages place [] frame = 0
 table_sum pages place (row ∷ table) frame =
@@ -36,25 +37,27 @@ table_sum pages place (row ∷ table) frame =
 
 -- ---- the sums of all frames
 
--- the sums after the place is added to that of the entry's frame; and after it is subtracted
+-- the sums after the place is added to that of the entry's frame
 abbrev pub joined : List ℕ → Option ℕ → (place : ℕ) → List ℕ
 joined sums None place = sums
 joined sums (Some frame) place = slice_set sums frame (slice_index sums frame + place)
 
+-- the sums after the place is subtracted from that of the entry's frame
 abbrev pub left : List ℕ → Option ℕ → (place : ℕ) → List ℕ
 left sums None place = sums
 left sums (Some frame) place = slice_set sums frame (slice_index sums frame - place)
 
--- adding the place to the frame's sum does not overflow; subtracting it does not go below 0
+-- adding the place to the frame's sum does not overflow
 pub record CanJoin (sums : List ℕ) (place frame : ℕ) : Type 0 where
   pub frame_in : frame < length sums
   pub fits : slice_index sums frame + place < 2 ^ 64
 
+-- subtracting the place from the frame's sum does not go below 0
 pub record CanLeave (sums : List ℕ) (place frame : ℕ) : Type 0 where
   pub frame_in : frame < length sums
   pub among : place ≤ slice_index sums frame
 
--- a bit for each frame whose sum is not 0
+-- `words` has a bit for each frame, which is 1 if and only if the frame's sum is not 0
 pub record AreMarked (sums words : List ℕ) : Type 0 where
   pub small : length sums ≤ 2 ^ 20
   pub room : length sums < 64 * length words

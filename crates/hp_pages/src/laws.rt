@@ -6,8 +6,8 @@ ghost use Rattle.hp_units.specs.Placement.{IsWellPlaced};
 ghost use Rattle.hp_tape.specs.Deltas.{page_frames_of};
 ghost use Rattle.hp_pages.specs.Pages.{ArePageFramesOf, AreSettled};
 
-/// In a well placed state no frame holds two pages, exactly the frames of pages have words, and all
-/// numbers are within the layout. Each call requires this of the pages.
+/// In a well placed state no frame holds two pages, and all numbers are within the layout. A frame
+/// has a buffer only if a word of its page is not 0. Calls that change the pages require this.
 pub fn well_placed_pages_are_settled()
     ensures settled { (l : LayoutParts) (s : Memory) → IsLayout l → IsWellPlaced l s
         → AreSettled (page_frames_of l s.pages) }

@@ -215,7 +215,7 @@ impl Pages {
         }
     }
 
-    /// Clears the entry of a page whose frame has no buffer.
+    /// Clears the entry of a page, which must be mapped to `frame`.
     fn clear_entry(&mut self, owner: Owner, page: Page, frame: Frame, tape: &mut Tape)
         requires owner { owner < self.old.layout.owners }
         requires page { page < self.old.layout.pages }
@@ -313,8 +313,8 @@ impl Pages {
         tape.note(Delta::Filled { index, frame, now });
     }
 
-    /// Writes a word of a frame that has a buffer, unless the word stays 0. If all words of the
-    /// frame are then 0, the old buffer moves into the tape.
+    /// Writes a word of a frame that has a buffer. Without one, `value` must be 0, and nothing
+    /// changes. If all words of the frame are then 0, the old buffer moves onto the tape.
     fn overwrite(&mut self, frame: Frame, index: u32, value: u64, change: Delta, tape: &mut Tape)
         requires frame { IsFrame self.old.layout frame }
         requires index { index < self.old.layout.words }

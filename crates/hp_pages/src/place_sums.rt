@@ -10,7 +10,7 @@ use std::marker::Model;
 
 /// For each frame, the sum of the places, counted from 1, of the pages that map it.
 ///
-/// A sum, because while deltas are undone two pages may map one frame.
+/// It is a sum, because while deltas are undone two pages may map one frame.
 #[derive(Drop)]
 pub(crate) struct PlaceSums {
     sums: Vec<u64>,

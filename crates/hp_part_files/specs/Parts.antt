@@ -21,10 +21,10 @@ use Rattle.hp_schedules.specs.PartNumbers.{NumberValue, part_by}
 use Rattle.hp_part_files.specs.Heads.{SearchValue}
 use Rattle.hp_part_files.specs.Texts.{part_text}
 
--- None: the ends count all complete schedules of the part, and there are at most `limit` of these.
--- No schedule in the part's search fills the history. Otherwise the ends count the part's first
--- schedules, and there are more: either `limit` schedules are counted, or the watch has ended the
--- search. `known` is the number of all complete schedules, as far as it is known before any call
+-- with None, the ends count all complete schedules of the part, and there are at most `limit` of
+-- these. No schedule in the part's search fills the history. With `known`, the ends count only the
+-- part's first schedules. Either `limit` schedules are counted, or the watch has ended the search.
+-- `known` is the number of complete schedules of all parts, as far as it is known before any call
 abbrev pub ArePartEnds : Setting → PartValue → (limit : ℕ) → (ended : Type 0) → List Ending → Option HowMany
     → Type 0
 ArePartEnds g part limit ended ends None =
@@ -67,7 +67,8 @@ IsToldPart names g s number x text found =
     (more : Option HowMany) × IsMore g.scripts x.is_whole more
     × (text ≡ part_text names g s number x.ends.items more) × (found ≡ is_none more)
 
--- a schedule of the part fills the history within the limit
+-- the history has no room for a call of the part's search, and at most `limit` schedules of the
+-- part come before that call
 abbrev pub FillsPartOf : NumberValue → (limit : ℕ) → Setting → Type 0
 FillsPartOf n limit g =
     (calls : ℕ) × IsCallsFor (length g.scripts) n.of calls × FillsPartWithin g (part_by n calls) limit
@@ -83,7 +84,8 @@ abbrev pub IsPartOf : NumberValue → (input : List ℕ) → (setup limit : ℕ)
 IsPartOf n input setup limit ended text found =
     HoldsIn (λ names before g. IsPartOn n setup input limit ended text found names g) input setup
 
--- if the fault is a full history, a schedule of the part fills it within the limit
+-- if the fault is a full history, it has no room for a call of the part's search, and at most
+-- `limit` schedules of the part come before that call
 abbrev pub IsFullPart : NumberValue → (input : List ℕ) → (setup limit : ℕ) → LabFault → Type 0
 IsFullPart n input setup limit (HistoryFull needed) =
     InScenario input setup (HoldsAfter (FillsPartOf n limit) setup)

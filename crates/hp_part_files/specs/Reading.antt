@@ -19,12 +19,12 @@ narrow n = if nat_lt n (2 ^ 32) then Some n else None
 abbrev pub processor_of : Data → Option ℕ
 processor_of d = option_and_then narrow (option_and_then as_u64 (as_number d))
 
--- the processors of a schedule
+-- the processors of a schedule, from the key `processors`
 unfoldable pub schedule_in : Data → Option (List ℕ)
 schedule_in d = option_and_then (each_in processor_of) (option_and_then as_array (get (codes "processors") d))
 
--- a line that is neither a head nor an end: either the part stopped at its limit, or the line is
--- something else
+-- the kind of a line that is neither a head nor an end: either a report that the part was stopped,
+-- or something else
 abbrev pub IsRest : Data → PartLine → Type 0
 IsRest d Stop = (n : ℕ) × (number_at (codes "first") d ≡ Some n)
 IsRest d Other = number_at (codes "first") d ≡ None
@@ -42,7 +42,7 @@ IsNoHead d =
     ((n : ℕ) × (number_at (codes "part") d ≡ Some n)) × (number_at (codes "ends") d ≡ None)
 
 -- the kind of a line: either a head with its number and its number of ends, or an end with its
--- count and its schedule. Otherwise the part stopped at its limit, or the line is something else
+-- count and its schedule. Any other line reports that the part was stopped, or is something else
 abbrev pub IsLineOf : Data → PartLine → Type 0
 IsLineOf d (Head number ends) =
     (number_at (codes "part") d ≡ Some number) × (number_at (codes "ends") d ≡ Some ends)

@@ -11,7 +11,8 @@ use Rattle.hp_part_files.specs.Processors.{processor_list}
 
 -- ---- an end
 
--- the line of end `number`: the object that an exploration writes, with its first schedule
+-- the line of end `number`: the object that an exploration writes, with the processors of the end's
+-- first schedule
 abbrev pub end_line : (names : List (List ℕ)) → Setting → (number : ℕ) → Ending → List ℕ
 end_line names g number e = end_keys names g number e ++ processor_list e.first.items
 
@@ -32,7 +33,8 @@ begun_lines names g s number named ends = head_line s number named ++ newline ++
 abbrev pub part_lines : (names : List (List ℕ)) → Setting → SearchValue → (number : ℕ) → List Ending → List ℕ
 part_lines names g s number ends = begun_lines names g s number (length ends) ends
 
--- a part and, if not all interleavings were counted, the number that were
+-- a part's head and ends. If not all interleavings were counted, then an object with the number
+-- that were and the number of all
 abbrev pub part_text : (names : List (List ℕ)) → Setting → SearchValue → (number : ℕ) → List Ending
     → Option HowMany → List ℕ
 part_text names g s number ends more =

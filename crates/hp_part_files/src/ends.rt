@@ -39,8 +39,8 @@ pub(crate) fn end_of(
     Ok(outcome)
 }
 
-/// Makes the calls of a schedule. Returns whether each of its processors had a call to make when
-/// its turn came.
+/// Makes the calls of a schedule until a processor has no call left at its turn. Returns whether
+/// all calls were made.
 fn follow(alloc: Global, path: &mut Path<'_>, schedule: &[Cpu]) -> Result<bool, ExploreFault>
     requires { path.old.news ≡ [] }
     ensures ok { IfOk result (λ led. IsFollowed path.old.setting schedule.now led path.new) }

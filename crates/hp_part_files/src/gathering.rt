@@ -1,4 +1,4 @@
-//! The parts read so far.
+//! The parts of a search that were read so far from a text.
 ghost use Rattle.std.specs.Prelude.{◌≡◌, ◌++◌, ◌∷◌, ◌^◌, ◌<◌, ◌↔◌, [], IfOk, IsTrue, OnErr, OnOk, length};
 
 use hp_schedules::Ending;

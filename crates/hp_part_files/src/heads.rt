@@ -44,7 +44,7 @@ impl Search<'_> {
     }
 }
 
-/// The head of a part.
+/// The head of a part: the contents of the first line of its file.
 #[derive(Drop)]
 pub struct Head<'a> {
     /// The part's number, from 1.
@@ -80,7 +80,8 @@ pub fn head_from<'a>(value: &'a Value) -> Option<Head<'a>>
     head_with(number, of, calls, setup, ends, scenario)
 }
 
-/// Returns the head with these numbers and this scenario, or `None` if there is no such part.
+/// Returns the head with these numbers and this scenario, or `None` if no search of `of` parts has
+/// a part with this number.
 fn head_with<'a>(
     number: u64,
     of: u64,

@@ -2,10 +2,12 @@
 //!
 //! A part's file is JSON, one object per line. A head names the search and the part. Then comes
 //! each end that the part's interleavings lead to, as `explore --json` writes it, with the
-//! processors of its first interleaving. `sum_text` plays each of these interleavings again on the
-//! scenario that the heads name. So it finds a line that does not match its own interleaving. It
-//! reports the whole as `explore` does. The crate owns the form of these files, and when each fault
-//! comes; it opens no file and no stream.
+//! processors of its first interleaving.
+//!
+//! `sum_text` plays each of these interleavings again on the scenario that the heads name. So it
+//! finds a line that does not match its own interleaving. It reports the sum of all parts as
+//! `explore` reports a whole search. The crate defines the form of these files, and states when
+//! each fault comes. It opens no file and no stream.
 //!
 //! Read specs/Heads, specs/Reading and specs/Ordering first, then specs/Texts, and specs/Parts and
 //! specs/Sums (what `part_text` and `sum_text` promise).

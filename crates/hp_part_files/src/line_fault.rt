@@ -16,12 +16,12 @@ pub(crate) enum LineFault {
     NotOfPart,
     /// The line is not what the search writes for its interleaving.
     Changed,
-    /// The line reports that the part stopped at its limit.
+    /// The line reports that the part was stopped before all its interleavings were counted.
     Stopped,
     /// The line is a head, but part `part`, which comes before it, does not have as many ends as
     /// its own head names.
     OtherCount { part: u32 },
-    /// The interleaving in the line could not be played.
+    /// The history has no room for a call of the interleaving in the line; or memory ran out.
     Lab(LabFault),
 }
 

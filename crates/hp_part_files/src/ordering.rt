@@ -79,7 +79,8 @@ fn check_numbers(parts: &[PartEnds], of: u32) -> Result<(), OrderFault>
     Ok(())
 }
 
-/// Checks that the part at `index` has the next number. The parts before it have been checked.
+/// Checks that the part at `index` has the number `index` + 1. The parts before it have the numbers
+/// from 1 to `index`.
 fn check_number(parts: &[PartEnds], index: usize, of: u32) -> Result<(), OrderFault>
     requires index { index < length parts.now }
     requires within { AreWithin of parts.now }

@@ -15,18 +15,18 @@ use std::alloc::Global;
 
 /// Searches one part of all interleavings of the scenario in `input`, as `explore_text` searches
 /// all of them. The text is JSON, one object per line: the head, which names the search and the
-/// part; then each end that an interleaving of the part leads to. An end is written as
-/// `explore_text` writes it as an object, with the processors of the first interleaving's calls. A
-/// part without interleavings has only its head.
+/// part; then each end that an interleaving of the part leads to. An end is the object that
+/// `explore_text` writes, and also has the processors of the first interleaving's calls. A part
+/// without interleavings has only its head.
 ///
-/// If the part has more interleavings than `limit`, its ends are those of the first `limit`, a last
-/// object reports that, and `is_found` is false. The same holds if `watch` ends the search: the
-/// ends are then those of the interleavings up to that point.
+/// If the part has more interleavings than `limit`, its ends are those of the first `limit`. If
+/// `watch` ends the search, they are those of the interleavings up to that point. In both cases a
+/// last object reports that not all were counted, and `is_found` is false.
 ///
 /// While the search runs, `watch` gets its progress, and may end it.
 ///
-/// Errors: those of `explore_text`, but `HistoryFull` only if the history has no room for a call
-/// that this part's search makes before it has counted more interleavings than the limit.
+/// Errors: those of `explore_text`. But `HistoryFull` comes only if the history has no room for a
+/// call of this part's search, and at most `limit` interleavings of the part come before that call.
 pub fn part_text<W: Watch>(
     alloc: Global,
     input: &[u8],

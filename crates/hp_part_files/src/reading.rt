@@ -16,9 +16,9 @@ pub enum PartLine {
     Head { number: u64, ends: u64 },
     /// An end: how many interleavings lead to it, and the first of them.
     End { count: u64, schedule: Vec<Cpu> },
-    /// The part stopped at its limit.
+    /// A report that the part was stopped before all its interleavings were counted.
     Stop,
-    /// None of these.
+    /// Neither a head, nor an end, nor a report that the part was stopped.
     Other,
 }
 
@@ -106,7 +106,8 @@ pub(crate) fn text_at<'a>(value: &'a Value, key: &str) -> Option<&'a str>
     value.get(key).and_then(Value::as_str)
 }
 
-/// Returns the processors of a schedule, from the key `processors`.
+/// Returns the processors of a schedule, from the key `processors`, or `None` if its value is no
+/// list of processors.
 #[tactic(auto, unfolding(crate::specs::Reading::schedule_in))]
 fn schedule_in(alloc: Global, value: &Value) -> Result<Option<Vec<Cpu>>, AllocError>
     ensures { IfOk result (λ s. option_map (λ v. v.items) s ≡ schedule (view value.now)) }

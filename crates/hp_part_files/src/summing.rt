@@ -31,14 +31,20 @@ use std::alloc::Global;
 /// `explore_text` returns the same text if its limit allows for all interleavings. It is tested,
 /// not proved, that `sum_text` accepts whatever `part_text` writes.
 ///
-/// Errors: that of the first line that belongs to no part, was changed, begins a part of another
-/// search, or reports that a part stopped at its limit; `OtherCount` with the number, from 1, of a
-/// part that has fewer or more ends than its head names; `Twice` or `Missing` with the first number
-/// that comes twice or is missing; `TooMany` if there are 2^64 interleavings or more; `HistoryFull`
-/// if the history has no room for a call of the schedule in the first line at fault; `Head` with
-/// the number of the first part, if reading the scenario that its head names fails, or a line of it
-/// may not be in a script, as for `explore_text`; `OutOfMemory`, which may come in place of any
-/// other result.
+/// # Errors
+///
+/// - `NotPart`, `OtherSearch`, `NotOfPart`, `Changed` or `Stopped` with the number of the first
+///   line at fault, counted from 1. The line belongs to no part, is a head of another search, has
+///   no complete interleaving of its part, was changed, or reports that its part was stopped.
+/// - `HistoryFull` if the history has no room for a call of the schedule in the first line at
+///   fault.
+/// - `OtherCount` with the number, from 1, of a part that has fewer or more ends than its head
+///   names.
+/// - `Twice` or `Missing` with the first number that comes twice or is missing.
+/// - `TooMany` if there are 2^64 interleavings or more.
+/// - `Head` with the number of the part in line 1, if the scenario in its head cannot be read, or
+///   a line after the setup may not be in a script.
+/// - `OutOfMemory`, which may come in place of any other result.
 pub fn sum_text(alloc: Global, input: &[u8], form: EndsForm) -> Result<SearchText, PartFault>
     ensures ok { IfOk result (λ f. IsSumOf form input.now (string_bytes f.text) f.is_found) }
     ensures err { IfErr result (IsSumFault input.now) }
@@ -74,7 +80,7 @@ fn sum_of(
     sum_after(alloc, input, &head, text.len() + 1, form)
 }
 
-/// Adds up the parts of a search. The first head takes `start` bytes.
+/// Adds up the parts of a search. The first head and its newline take `start` bytes.
 fn sum_after(
     alloc: Global,
     input: &[u8],
@@ -97,7 +103,8 @@ fn sum_after(
     sum_on(alloc, input, &prepared, head, start, form)
 }
 
-/// Adds up the parts of a search of a prepared scenario. The first head takes `start` bytes.
+/// Adds up the parts of a search of a prepared scenario. The first head and its newline take
+/// `start` bytes.
 fn sum_on(
     alloc: Global,
     input: &[u8],
@@ -134,7 +141,7 @@ fn lists_of(alloc: Global, parts: Vec<PartEnds>, of: u32) -> Result<Vec<Vec<Endi
 }
 
 /// Returns the fault of the sum if the scenario that the head of part `part` names cannot be
-/// explored.
+/// prepared for a search.
 fn fault_of_head(part: u32, fault: LabFault) -> PartFault
     ensures { result ≡ fault_of_head part fault }
 {
@@ -155,7 +162,7 @@ fn fault_of_order(fault: OrderFault) -> PartFault
     }
 }
 
-/// Adds up the ends of all parts. Fails if there are too many interleavings.
+/// Adds up the ends of all parts. Fails if there are 2^64 interleavings or more.
 fn summed(alloc: Global, lists: &[Vec<Ending>]) -> Result<Vec<Ending>, PartFault>
     ensures ok { IfOk result (λ ends. IsSum (lists_of lists.now) ends.items) }
     ensures err { IfErr result (IsTooMany (lists_of lists.now)) }
@@ -167,7 +174,8 @@ fn summed(alloc: Global, lists: &[Vec<Ending>]) -> Result<Vec<Ending>, PartFault
     }
 }
 
-/// Returns the text of all ends in a form. Their schedules must have been played.
+/// Returns the text of all ends in `form`. Fails as if out of memory if the history has no room for
+/// the calls of a schedule.
 fn told(
     alloc: Global,
     prepared: &Prepared,

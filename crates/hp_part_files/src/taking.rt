@@ -20,7 +20,8 @@ use hp_search::{PartFault, Prepared};
 use hp_units::Cpu;
 use std::alloc::{AllocError, Global};
 
-/// Reads all parts of `input`, whose first head is already read and is `start` bytes long.
+/// Reads all parts of `input`. Its first head was already read; this head and its newline take
+/// `start` bytes.
 pub(crate) fn gather(
     alloc: Global,
     input: &[u8],
@@ -85,7 +86,7 @@ fn take_line(
     }
 }
 
-/// Takes the head of part `number`, which names `ends` ends.
+/// Takes a line that is a head of part `number` and names `ends` ends, and begins this part.
 fn take_head(
     alloc: Global,
     search: &Search<'_>,
@@ -117,7 +118,8 @@ fn take_head(
     Ok(())
 }
 
-/// Takes the line of an end, with its count and its first schedule.
+/// Takes the line of an end with this count and this first schedule, and adds the end to the last
+/// part.
 fn take_end(
     alloc: Global,
     prepared: &Prepared,
@@ -149,7 +151,7 @@ fn take_end(
 }
 
 /// Returns how a schedule of part `number` ends, or `None` if it is not a complete schedule of the
-/// part. Fails if it cannot be played.
+/// part. Fails if the history has no room for one of its calls.
 fn outcome_of(
     alloc: Global,
     prepared: &Prepared,
@@ -196,7 +198,8 @@ fn push_end(
     Ok(())
 }
 
-/// Returns whether `text` is the line of end `number`. The end's schedule must have been played.
+/// Returns whether `text` is the line of end `number`. Fails as if out of memory if the history has
+/// no room for a call of the end's schedule.
 fn is_end(
     alloc: Global,
     prepared: &Prepared,

@@ -14,7 +14,7 @@ use hp_search::Prepared;
 use std::alloc::{AllocError, Global};
 
 /// Writes the head and the ends of part `number`, counted from 1. Replays the first schedule of
-/// each end, and fails if that cannot be done.
+/// each end, and fails if the history has no room for one of its calls.
 pub(crate) fn write_part(
     out: &mut String,
     alloc: Global,
@@ -79,7 +79,8 @@ fn write_end_line(
     Ok(())
 }
 
-/// Writes the line of end `number`. Replays its first schedule, and fails if that cannot be done.
+/// Writes the line of end `number`. Replays its first schedule, and fails if the history has no
+/// room for one of its calls.
 pub(crate) fn write_end(
     out: &mut String,
     alloc: Global,

@@ -71,7 +71,8 @@ kernel_each l rows kernel number all each first = elim (cases_lt first number) [
 ]
 
 -- one more frame's mark
-pub marks_more : (l : LayoutParts) (rows : List Row) (marks new : List ℕ) (number x : ℕ) → length marks ≡ number
+pub marks_more : (l : LayoutParts) (rows : List Row) (marks new : List ℕ) (number x : ℕ)
+    → length marks ≡ number
     → ((k : ℕ) → k < number → get_or marks k 1 ≡ unplugged l rows k) → new ≡ marks ++ x ∷ []
     → x ≡ unplugged l rows number → (k : ℕ) → k < number + 1 → get_or new k 1 ≡ unplugged l rows k
 marks_more l rows marks new number x long each pushed is k low = elim (cases_lt k number) [

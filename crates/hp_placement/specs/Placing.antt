@@ -20,7 +20,7 @@ use Rattle.hp_units.specs.Placement.{IsBlockOf, IsKernelAt, IsPage, IsRow, class
 abbrev pub mark_of : List ℕ → Frame → ℕ
 mark_of marks frame = slice_index_or marks frame 1
 
--- each frame is in this many more places
+-- each frame's mark in `new` is its mark in `old` plus `places` of the frame
 pub record AreMarked (old new : List ℕ) (places : Frame → ℕ) : Type 0 where
   pub adds : (frame : Frame) → mark_of new frame ≡ mark_of old frame + places frame
 
@@ -39,54 +39,59 @@ unplugged l rows frame = if is_unplugged (row_in rows (block_of l frame)) then 1
 
 -- ---- what is required of each part
 
--- of the free blocks of a class and an order, and of all free blocks
+-- each block on a free list of a class and an order is aligned and in a pageblock of that class
 abbrev pub IsListPlaced : LayoutParts → List Kind → List Row → Class → Order → List Frame → Type 0
 IsListPlaced l kinds rows class order frames = (first : Frame) → is_on first frames ≡ true
     → IsBlockOf l (class_at l kinds rows) class order first
 
+-- each free block is aligned and in a pageblock of its class
 abbrev pub AreListsPlaced : LayoutParts → FreeAreas → List Row → Type 0
 AreListsPlaced l a rows = (class : Class) (order : Order)
     → IsListPlaced l a.kinds rows class order (free_list a class order)
 
--- no free block's buddy is free too
+-- no block of a free list has its buddy on the list
 abbrev pub IsListJoined : List Frame → Order → Type 0
 IsListJoined frames order = (first : Frame) → is_on first frames ≡ true
     → is_on (buddy first order) frames ≡ false
 
+-- below the greatest order, no free block's buddy is free in the same class
 abbrev pub AreListsJoined : LayoutParts → FreeAreas → Type 0
 AreListsJoined l a = (class : Class) (order : Order) → order < l.order
     → IsListJoined (free_list a class order) order
 
--- of the frames on a processor's list of a pool, and of those on all lists
+-- each frame on a processor's list of a pool is in a pageblock of that pool
 abbrev pub IsPoolPlaced : LayoutParts → List Kind → List Row → Pool → List Frame → Type 0
 IsPoolPlaced l kinds rows pool frames = (frame : Frame) → is_on frame frames ≡ true
     → pool_at l kinds rows (pageblock_of l frame) ≡ Some pool
 
+-- each frame on any processor's list is in a pageblock of the list's pool
 abbrev pub ArePoolsPlaced : LayoutParts → FreeFrames → List Row → Type 0
 ArePoolsPlaced l fs rows = (cpu : Cpu) (pool : Pool)
     → IsPoolPlaced l fs.areas.kinds rows pool (cached_list fs cpu pool)
 
--- of the kernel blocks
+-- each kernel block is aligned, of an order of the layout, and in zone Normal
 abbrev pub IsKernelPlaced : LayoutParts → List Row → List (Option Order) → Type 0
 IsKernelPlaced l rows kernel = (first : Frame)
     → IfSome (slice_index_or kernel first None) (IsKernelAt l rows first)
 
--- of a pageblock's kind, and of all kinds
+-- a pageblock's kind fits the row of its memory block
 pub record IsKind (kind : Kind) (row : Row) : Type 0 where
   pub mobility : kind.mobility ≡ Unmovable → row.zone ≡ Some NormalZone
   pub isolated : kind.isolated ≡ is_going row
 
+-- each pageblock's kind fits the row of its memory block
 abbrev pub AreKinds : LayoutParts → List Kind → List Row → Type 0
 AreKinds l kinds rows = (pageblock : Pageblock) → IsKind (kind_at kinds pageblock) (row_at l rows pageblock)
 
--- of all rows
+-- in each row, the zone and the claim fit the state
 abbrev pub AreRows : List Row → Type 0
 AreRows rows = (block : Block) → IsRow (row_in rows block)
 
--- of the pages of an owner, and of all pages
+-- each page of an owner has both a frame and the layout's number of words, or neither
 abbrev pub AreOwnersPages : LayoutParts → Pages → Owner → Type 0
 AreOwnersPages l ps owner = (page : Page) → IsPage l (frame_at ps owner page) (words_at ps owner page)
 
+-- each page has both a frame and the layout's number of words, or neither
 abbrev pub ArePages : LayoutParts → Pages → Type 0
 ArePages l ps = (owner : Owner) → AreOwnersPages l ps owner
 
@@ -96,17 +101,19 @@ pool_numbered zero = NuPool
 pool_numbered (suc zero) = NmPool
 pool_numbered (suc (suc n)) = MmPool
 
--- in how many kernel blocks a frame is: of the one that starts at `first`, and of all
+-- 1 if the frame is in the kernel block that starts at `first`, if there is one; otherwise 0
 abbrev pub kernel_covered : (frame first : Frame) → Option Order → ℕ
 kernel_covered frame first entry =
     if option_map_or (λ order. covers frame order first) entry false then 1 else 0
 
+-- in how many kernel blocks a frame is
 abbrev pub kernel_counts : List (Option Order) → Frame → ℕ
 kernel_counts kernel frame =
     count_by (λ entry. option_map_or (λ order. covers frame order entry.0) entry.1 false)
     (enumerate_from 0 kernel)
 
--- the lists, the kernel blocks and the pages are where they may be, and each number is in one place
+-- the lists, the kernel blocks and the pages are where they may be, and each frame is in exactly
+-- one place
 pub record ArePlacedOnce (l : LayoutParts) (s : Memory) : Type 0 where
   pub free : AreListsPlaced l s.free.areas s.blocks.rows
   pub cached : ArePoolsPlaced l s.free s.blocks.rows

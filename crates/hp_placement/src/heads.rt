@@ -8,8 +8,8 @@ use hp_units::{Frame, Layout, Order, buddy};
 use std::alloc::{AllocError, Global};
 use std::marker::Model;
 
-/// For each frame, the number of the latest list with a free block that starts there, or 0
-/// if there was none.
+/// For each frame, the number of the list that was set last of those with a free block that starts
+/// there, or 0 if none was set.
 #[derive(Drop)]
 pub struct Heads {
     frames: Vec<u8>,
@@ -61,7 +61,7 @@ impl Heads {
         true
     }
 
-    /// Returns the number of the latest list with a free block at the frame.
+    /// Returns the number that was set last for the frame, or 0 if none was set.
     fn at(&self, frame: Frame) -> u8
         ensures { result ≡ slice_index_or self.now frame 0 }
     {

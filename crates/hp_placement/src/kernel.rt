@@ -32,6 +32,7 @@ pub fn place_kernel(
 }
 
 /// Returns whether a kernel block, if there is one, may start at the frame, and marks its frames.
+/// Returns false if one of them is already marked.
 fn place_entry(
     layout: &Layout,
     rows: &[Row],

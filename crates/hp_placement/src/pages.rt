@@ -1,5 +1,5 @@
-//! The test of an owner's page: it must have both a frame and words or neither, and its frame be in
-//! no other place.
+//! The test of an owner's page: it must have both a frame and the layout's number of words, or
+//! neither, and its frame must be in no other place.
 ghost use Rattle.std.specs.Prelude.{MatchBool, if◌then◌else◌};
 ghost use Rattle.std.specs.Option.{option_map};
 ghost use Rattle.hp_units.specs.Pages.{holds};
@@ -9,8 +9,8 @@ ghost use Rattle.hp_placement.specs.Placing.{AreMarked, IsTwice};
 use crate::marks::Marks;
 use hp_units::{Frame, Layout, Order};
 
-/// Returns whether a page has both a frame and words or neither, and marks the frame. Returns false
-/// if the frame is already marked.
+/// Returns whether a page has both a frame and the layout's number of words, or neither, and marks
+/// the frame. Returns false if the frame is already marked.
 pub fn place_page(
     layout: &Layout,
     marks: &mut Marks,

@@ -33,7 +33,7 @@ pub(crate) fn row_at(layout: &Layout, rows: &[Row], pageblock: Pageblock) -> Row
     row_of(rows, Block(pageblock.0 / layout.pageblocks()))
 }
 
-/// Returns whether each block's row is valid.
+/// Returns whether in each block's row the zone and the claim fit the state.
 pub fn are_rows(rows: &[Row]) -> bool
     ensures { MatchBool result (AreRows rows.now) (AreRows rows.now → ⊥) }
 {
@@ -45,7 +45,7 @@ pub fn are_rows(rows: &[Row]) -> bool
     true
 }
 
-/// Returns whether a row is valid.
+/// Returns whether a row's zone and claim fit its state.
 fn is_row(row: &Row) -> bool
     ensures { MatchBool result (IsRow row.now) (IsRow row.now → ⊥) }
 {

@@ -91,7 +91,8 @@ pub free_twice : (l : LayoutParts) (a : FreeAreas) (rows : List Row) (number ord
 free_twice l a rows number order class old mid h low class_is order_is twice placed =
     let here = rw (order_is, class_is) at (twice (placed class order)) in
     twice_as (free_places a) (λ frame. total-lists frame 0 a.lists)
-    (so_far_twice h (free_list a (class_numbered (number % 5)) (number / 5)) low (list_numbered a number) here)
+    (so_far_twice h (free_list a (class_numbered (number % 5)) (number / 5)) low
+    (list_numbered a number) here)
 
 pub free_all : (l : LayoutParts) (a : FreeAreas) (rows : List Row) (number : ℕ) (old new : List ℕ)
     → FreeSoFar l a rows number old new → number ≡ length a.lists
@@ -127,7 +128,8 @@ cached_numbered fs number =
 abbrev pub CachedSoFar : LayoutParts → FreeFrames → List Row → (number : ℕ) → (old new : List ℕ) → Type 0
 CachedSoFar l fs rows number old new =
     SoFar (λ frame n frames. count_by (λ other. other == frame) frames)
-    (λ n frames. IsPoolPlaced l fs.areas.kinds rows (pool_numbered (n % 3)) frames) fs.cached [] number old new
+    (λ n frames. IsPoolPlaced l fs.areas.kinds rows (pool_numbered (n % 3)) frames)
+    fs.cached [] number old new
 
 pub cached_more : (l : LayoutParts) (fs : FreeFrames) (rows : List Row) (number : ℕ) (pool : Pool)
     (kinds : List Kind) (frames : List ℕ) (old mid new : List ℕ)

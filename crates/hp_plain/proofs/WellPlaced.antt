@@ -14,7 +14,8 @@ IsStart l s marks = (frame : ℕ) → mark_of marks frame ≡ unplugged l s.bloc
 
 -- a frame is in two places: of a free block
 pub twice_free : (l : LayoutParts) (s : Memory) (a : FreeAreas) (m : List ℕ) → IsStart l s m
-    → a ≡ s.free.areas → (AreListsPlaced l a s.blocks.rows → IsTwice m (free_places a)) → ArePlacedOnce l s → ⊥
+    → a ≡ s.free.areas → (AreListsPlaced l a s.blocks.rows → IsTwice m (free_places a))
+    → ArePlacedOnce l s → ⊥
 twice_free l s a m start areas twice p =
     let t = (subst (λ (b : FreeAreas). AreListsPlaced l b s.blocks.rows → IsTwice m (free_places b)) areas
     twice) p.free in

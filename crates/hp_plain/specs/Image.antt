@@ -25,7 +25,7 @@ IsPartOf l (Kind pageblock kind) = pageblock < pageblock_count l
 IsPartOf l (Row block row) = block < l.blocks
 IsPartOf l (Auto auto) = Unit {0}
 
--- the part joins an ordered list
+-- the part is an entry of an ordered list: a free block, or a frame on a processor's list
 abbrev pub IsListed : Part → Type 0
 IsListed (Free class order frame) = Unit {0}
 IsListed (Cached cpu pool frame) = Unit {0}

@@ -15,13 +15,13 @@ use Rattle.hp_units.specs.declared.plans.Item.{Item}
 abbrev pub names_no_block : LayoutParts → List Item → Bool
 names_no_block l plan = list_any (λ item. nat_le l.blocks item.block) plan
 
--- the blocks of items, last first, in front of others
+-- the blocks of the items, last first, followed by `before`
 abbrev pub blocks_in : List ℕ → List Item → List ℕ
 blocks_in before [] = before
 blocks_in before (item ∷ items) = blocks_in (item.block ∷ before) items
 
--- the last two refusals of a plan: for a block that is to go online, and for one that is to go
--- offline
+-- the last two refusals of a plan: a block that is to go online is not offline; a block that is to
+-- go offline has a kernel block
 abbrev pub change_refusals : LayoutParts → Memory → List Item → List (Option Refusal)
 change_refusals l s plan =
     option_map (λ item. NotOffline item.block)
@@ -29,7 +29,7 @@ change_refusals l s plan =
     ∷ option_map HoldsUnmovable (first_some (map (kernel_frame_in l s) plan))
     ∷ []
 
--- those, and the refusal for a block that is to go offline but is not online
+-- the refusal for a block that is to go offline but is not online, followed by `change_refusals`
 abbrev pub state_refusals : LayoutParts → Memory → List Item → List (Option Refusal)
 state_refusals l s plan =
     option_map (λ item. NotOnline item.block)

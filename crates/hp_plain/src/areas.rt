@@ -28,7 +28,7 @@ impl Model for Areas {
 }
 
 impl Areas {
-    /// Creates areas with nothing free, and every pageblock movable and not isolated.
+    /// Creates areas without free blocks; each pageblock is movable and not isolated.
     pub(crate) fn empty(alloc: Global, layout: &Layout) -> Result<Areas, AllocError>
         ensures value { IfOk result (λ areas. areas ≡ empty_areas layout.now) }
         ensures layout { IfOk result (AreFreeAreasOf layout.now) }

@@ -53,7 +53,7 @@ impl Blocks {
         })
     }
 
-    /// Returns whether both have the same rows, and added blocks become the same.
+    /// Returns whether both have the same rows and the same setting for added blocks.
     pub(crate) fn same(&self, other: &Blocks) -> bool
         ensures { MatchBool result (self.now ≡ other.now) (self.now ≢ other.now) }
     {

@@ -41,8 +41,8 @@ impl Model for FreeFrames {
 }
 
 impl FreeFrames {
-    /// Creates free frames with nothing free, nothing on the processors' lists, and every pageblock
-    /// movable and not isolated.
+    /// Creates the empty value for a layout: no frame is free or on a processor's list, and each
+    /// pageblock is movable and not isolated.
     #[tactic(auto, using(crate::proofs::EmptyFrames::empty_of))]
     pub(crate) fn empty(alloc: Global, layout: &Layout) -> Result<FreeFrames, AllocError>
         ensures value { IfOk result
@@ -89,10 +89,10 @@ impl FreeFrames {
         }
     }
 
-    /// Adds all pageblocks of a memory block as movable free blocks of the greatest order, in
-    /// rising order at the back of the zone's list (Linux, memory hotplug: onlining; the order is
-    /// this model's choice). The block's number must be below the layout's. If memory runs out,
-    /// some of them are added.
+    /// Adds all pageblocks of a memory block as movable free blocks of the greatest order, at the
+    /// back of the zone's list (Linux, memory hotplug: onlining). They come in rising order, which
+    /// is this model's choice. The block's number must be below the layout's. If memory runs out,
+    /// some pageblocks may have been added.
     pub(crate) fn add_block(
         &mut self,
         layout: &Layout,
@@ -158,7 +158,7 @@ impl FreeFrames {
     }
 }
 
-/// Adds the pageblocks of a memory block at the backs of their lists.
+/// Adds the pageblocks of a memory block, as movable free blocks, at the back of the zone's list.
 fn add_block(areas: &mut Areas, layout: &Layout, zone: Zone, block: Block) -> Result<(), AllocError>
     requires layout { AreFreeAreasOf layout.now areas.old }
     requires block { block < layout.now.blocks }

@@ -110,7 +110,7 @@ impl Image {
         })
     }
 
-    /// Returns whether both have the same state.
+    /// Returns whether both have the same state. Does not compare the layouts.
     pub fn same(&self, other: &Image) -> bool
         ensures { MatchBool result (self.now.memory ≡ other.now.memory) (self.now.memory ≢ other.now.memory) }
     {

@@ -221,7 +221,7 @@ impl Pages {
     }
 }
 
-/// Returns the frames of `owners` owners with `pages` pages each, none mapped.
+/// Returns a table for `owners` owners with `pages` pages each, none mapped.
 fn empty_table(alloc: Global, owners: u32, pages: u32) -> Result<Vec<OwnerFrames>, AllocError>
     ensures { IfOk result (λ table. table.items ≡ replicate owners (replicate pages None)) }
 {
@@ -232,7 +232,7 @@ fn empty_table(alloc: Global, owners: u32, pages: u32) -> Result<Vec<OwnerFrames
     Ok(table)
 }
 
-/// Returns the words of `owners` owners with `pages` pages each, none with words.
+/// Returns entries for the words of `owners` owners with `pages` pages each, all without words.
 fn empty_contents(alloc: Global, owners: u32, pages: u32) -> Result<Vec<OwnerWords>, AllocError>
     ensures { IfOk result (λ contents. contents.items ≡ replicate owners (replicate pages None)) }
 {

@@ -65,8 +65,8 @@ pub(crate) fn place_cached(
     true
 }
 
-/// Returns whether each page has both a frame and words or neither, and marks the frames. Returns
-/// false if a frame is already marked.
+/// Returns whether each page has both a frame and the layout's number of words, or neither, and
+/// marks the frames. Returns false if a frame is already marked.
 pub(crate) fn place_pages(layout: &Layout, pages: &Pages, marks: &mut Marks) -> bool
     requires { ArePagesOf layout.now pages.now }
     ensures { MatchBool result
@@ -81,8 +81,8 @@ pub(crate) fn place_pages(layout: &Layout, pages: &Pages, marks: &mut Marks) -> 
     true
 }
 
-/// Returns whether each page of one owner has both a frame and words or neither, and marks the
-/// frames.
+/// Returns whether each page of one owner has both a frame and the layout's number of words, or
+/// neither, and marks the frames. Returns false if a frame is already marked.
 fn place_owner(layout: &Layout, pages: &Pages, marks: &mut Marks, owner: Owner) -> bool
     requires pages { ArePagesOf layout.now pages.now }
     requires owner { owner < layout.now.owners }
@@ -112,8 +112,8 @@ pub(crate) fn are_joined(alloc: Global, layout: &Layout, areas: &Areas) -> Resul
     Ok(are_joined_by(&mut heads, layout, areas))
 }
 
-/// Returns the same. `heads` is a table of free blocks' first frames, in which nothing may be set
-/// yet.
+/// Returns whether, below the greatest order, no free block's buddy is free in the same class.
+/// `heads` is a table of free blocks' first frames, in which nothing may be set yet.
 fn are_joined_by(heads: &mut Heads, layout: &Layout, areas: &Areas) -> bool
     requires areas { AreFreeAreasOf layout.now areas.now }
     requires length { length heads.old ≡ frame_count layout.now }

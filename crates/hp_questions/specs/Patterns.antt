@@ -18,7 +18,7 @@ kind_of (NotFree frame) = NotFree 0
 kind_of (NotAbsent block) = NotAbsent 0
 kind_of refusal = refusal
 
--- the reply is a refusal of the same kind
+-- the reply is a refusal of the same kind as `wanted`
 abbrev pub IsKindOf : Refusal → Reply → Type 0
 IsKindOf wanted (Refused refusal) = kind_of refusal ≡ kind_of wanted
 IsKindOf wanted reply = ⊥

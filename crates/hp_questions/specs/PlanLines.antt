@@ -26,8 +26,8 @@ abbrev pub IsCancelled : OpEnd → Type 0
 IsCancelled (EndsCancelled why restored) = Unit {0}
 IsCancelled end = ⊥
 
--- the plan was cancelled, its last refusal matches, and the Cancel dropped its steps exactly if
--- `restored` is true
+-- the plan was cancelled, its last refusal is as wanted, and the Cancel dropped its steps exactly
+-- if `restored` is true
 abbrev pub IsCancelledAs : (why : Option Pattern) → (restored : Bool) → OpEnd → Type 0
 IsCancelledAs wanted restored (EndsCancelled why dropped) =
     (dropped ≡ restored) × IsCauseAsWanted wanted why

@@ -40,7 +40,7 @@ numbered_refusal name number =
     else (if bytes_eq name (codes "NotAbsent") then Some (NotAbsent number)
     else None))))))
 
--- the refusal with this name; 0 is the number of its frame or block
+-- the refusal with this name; 0 is the number of its frame or block, if it has one
 unfoldable pub named_refusal : (name : List ℕ) → Option Refusal
 named_refusal name =
     if bytes_eq name (codes "NoOwner") then Some NoOwner
@@ -135,8 +135,8 @@ cancelled_end (name ∷ number ∷ what ∷ []) = do
   cancelled_as (Some refusal) what
 cancelled_end _ = None
 
--- the pattern for the end of a plan, from its first word and the other words. There is none for a plan
--- that was left, because a full history ends the search
+-- the pattern for the end of a plan, from its first word and the other words. There is none for a
+-- plan that its driver gave up because the history was full: this ends the search
 unfoldable pub end_of : List ℕ → List (List ℕ) → Option EndPattern
 end_of word args =
     if bytes_eq word (codes "done") then bare_end DoneSo args
@@ -229,7 +229,7 @@ answer_of who words = do
   reply ← reply_after_space words
   answer_by who reply
 
--- the wanted line for the end of a plan of this processor, or of any processor
+-- the wanted line for the end of a plan of processor `cpu`, or of any processor if `cpu` is None
 unfoldable pub plan_line : (cpu : Option ℕ) → (words : List (List ℕ)) → Option EndLine
 plan_line cpu words = option_map (λ end. Plan cpu end) (end_after_space words)
 

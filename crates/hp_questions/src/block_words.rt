@@ -1,4 +1,4 @@
-//! Parses a wanted memory block.
+//! Parses a wanted line about a memory block.
 ghost use Rattle.std.specs.Prelude.{◌≡◌, map};
 ghost use Rattle.hp_questions.specs.WantedLines as says;
 
@@ -6,7 +6,8 @@ use crate::wanted::EndLine;
 use hp_scenario::zone_from;
 use hp_units::{Block, Claim, Row, State, Zone, number32};
 
-/// Parses a wanted memory block: its number and its final row.
+/// Parses the words after `block` in a wanted line: the block's number, its final state, and its
+/// zone if it has one.
 #[tactic(auto, unfolding(crate::specs::WantedLines::block_of))]
 pub(crate) fn block_from(args: &[&str]) -> Option<EndLine>
     ensures { result ≡ says.block_of (map (λ w. w.now) args.now) }
@@ -33,7 +34,7 @@ fn row_from(word: &str, args: &[&str]) -> Option<Row>
     }
 }
 
-/// Returns the row of a block that is offline or absent.
+/// Returns the row of a block that is offline or absent, if there are no further words.
 #[tactic(auto, unfolding(crate::specs::WantedLines::bare_row))]
 fn bare_row(state: State, args: &[&str]) -> Option<Row>
     ensures { result ≡ says.bare_row state (map (λ w. w.now) args.now) }

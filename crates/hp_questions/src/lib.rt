@@ -6,8 +6,9 @@
 //! the others can still be met. It searches nothing: hp_explore does, and hp_search writes what it
 //! finds.
 //!
-//! An end has each processor's replies, and no receipts. How plans ended follows from a processor's
-//! script and these replies (`plan_ends`), and is proved to be what `hotplug run` prints (`laws`).
+//! An end has each processor's replies, but not the calls that got them. How plans ended follows
+//! from a processor's script and its replies (`plan_ends`). It is proved to be what `hotplug run`
+//! prints (`laws`).
 //!
 //! Read specs/Patterns, specs/PlanEnds, specs/PlanLines and specs/Wanted first, then specs/Marks,
 //! specs/Limits and specs/WantedLines.

@@ -21,7 +21,8 @@ pub fn first_past(wanted: &[Wanted], layout: &Layout) -> Option<u64>
 }
 
 impl Wanted {
-    /// Returns whether its line names something outside the layout.
+    /// Returns whether the line that an end must or must not have names something outside the
+    /// layout.
     fn is_past(&self, layout: &Layout) -> bool
         ensures { IsTrue result ↔ IsPast layout.now self.now }
     {
@@ -33,7 +34,7 @@ impl Wanted {
 }
 
 impl EndLine {
-    /// Returns whether it names something outside the layout.
+    /// Returns whether the line names something outside the layout.
     fn is_past(&self, layout: &Layout) -> bool
         ensures { IsTrue result ↔ IsLinePast layout.now self.now }
     {
@@ -62,8 +63,8 @@ fn is_answer_past(cpu: Cpu, reply: &Pattern, layout: &Layout) -> bool
     cpu.0 >= layout.cpus() || reply.is_past(layout)
 }
 
-/// Returns whether the layout has no such processor, or the pattern for a plan's end names
-/// something outside the layout.
+/// Returns whether `cpu` names a processor that the layout does not have, or the pattern for a
+/// plan's end names something outside the layout.
 fn is_plan_past(cpu: &Option<Cpu>, end: &EndPattern, layout: &Layout) -> bool
     ensures { IsTrue result ↔ IsPlanPast layout.now cpu.now end.now }
 {
@@ -74,7 +75,8 @@ fn is_plan_past(cpu: &Option<Cpu>, end: &EndPattern, layout: &Layout) -> bool
 }
 
 impl EndPattern {
-    /// Returns whether it names something outside the layout.
+    /// Returns whether the pattern names something outside the layout. Only a refusal with a frame
+    /// or memory block can.
     fn is_past(&self, layout: &Layout) -> bool
         ensures { IsTrue result ↔ IsEndPast layout.now self.now }
     {
@@ -90,7 +92,8 @@ impl EndPattern {
 }
 
 impl Pattern {
-    /// Returns whether it names something outside the layout.
+    /// Returns whether the pattern names something outside the layout. A pattern for all refusals
+    /// of a kind names nothing.
     fn is_past(&self, layout: &Layout) -> bool
         ensures { IsTrue result ↔ IsPatternPast layout.now self.now }
     {

@@ -11,13 +11,14 @@ use hp_schedules::{CallScript, all_answers};
 use hp_units::{Cpu, Record, Reply, Serial};
 use std::alloc::{AllocError, Global};
 
-/// Appends the marks after these records: for each processor its number of replies, and for each
-/// wanted line 1 if a reply meets it or a plan ended as it wants, else 0. Returns whether each
-/// number fits 32 bits. If not, `numbers` holds only a part of them.
+/// Appends the marks of the place in a search that these records lead to. For each processor, the
+/// mark is its number of replies. For each wanted line, it is 1 if the records have the line so
+/// far, else 0; this is also so for a line that an end must not have. A line about a memory block
+/// always gets 0. Returns whether each number fits 32 bits. If not, `numbers` holds only some.
 ///
-/// Places with the same marks can be merged. If the same further calls get the same replies after
-/// both, further plans end alike, and the rows at the end are equal, then both ends meet the same
-/// wanted lines. Allocates only for `numbers` and for lines about plans.
+/// Two places with the same marks can be merged. If the same further calls get the same replies
+/// after both, further plans end alike, and the rows at the end are equal, then both ends meet the
+/// same wanted lines. Allocates only for `numbers` and for lines about plans.
 pub fn push_marks(
     alloc: Global,
     wanted: &[Wanted],
@@ -50,9 +51,9 @@ pub fn asks_no_plans(wanted: &[Wanted]) -> bool
     true
 }
 
-/// Returns `true` if no end can meet the wanted lines any more: the reply at a wanted place is
-/// another one, or a reply that is to be lacked has come. `false` promises nothing, because the
-/// ends of plans and the rows of blocks are not looked at.
+/// Returns `true` only if no later end can meet all wanted lines. Either a processor's n-th reply
+/// is wanted and does not match, or a reply has come that an end must not have. `false` promises
+/// nothing, because the ends of plans and the rows of memory blocks are not looked at.
 pub fn is_lost(wanted: &[Wanted], processors: u32, records: &[Record]) -> bool
     ensures { IsTrue result → (cpus : ℕ) (scripts : List (List Step))
         → IsLost cpus scripts wanted.now processors records.now }
@@ -83,7 +84,8 @@ fn push_calls(
     Ok(true)
 }
 
-/// Appends 1 for each wanted line that is met so far, and 0 for each other.
+/// Appends a number for each wanted line: 1 if the records have the line so far, else 0. This is
+/// also so for a line that an end must not have.
 fn push_met(
     alloc: Global,
     wanted: &[Wanted],
@@ -113,7 +115,7 @@ fn line_of(one: &Wanted) -> &EndLine
     }
 }
 
-/// Returns `true` if the records show that no end after them can meet this.
+/// Returns `true` only if no end after these records can meet the wanted line.
 fn is_ruled_out(one: &Wanted, processors: u32, records: &[Record]) -> bool
     ensures { IsTrue result → IsRuledOut processors records.now one.now }
 {
@@ -123,7 +125,8 @@ fn is_ruled_out(one: &Wanted, processors: u32, records: &[Record]) -> bool
     }
 }
 
-/// Returns `true` if the line wants a reply at a place, and the reply there does not match.
+/// Returns `true` only if the line wants the reply with a certain number of a processor, and this
+/// reply has come and does not match.
 fn is_missed(line: &EndLine, records: &[Record]) -> bool
     ensures { IsTrue result → IsMissed records.now line.now }
 {
@@ -147,7 +150,8 @@ fn leaves_plans(line: &EndLine) -> bool
     !matches!(line, EndLine::Plan { .. })
 }
 
-/// Returns whether a reply so far meets the line, or a finished plan ended as the line wants.
+/// Returns whether a reply so far matches the line, or a finished plan ended as the line wants.
+/// False for a line about a memory block.
 fn has_line_so_far(
     alloc: Global,
     line: &EndLine,
@@ -168,7 +172,8 @@ fn has_line_so_far(
     }
 }
 
-/// Returns whether a reply so far meets the line. False for lines about plans and blocks.
+/// Returns whether a reply so far matches the line. False for a line about a plan or a memory
+/// block.
 fn has_reply_so_far(line: &EndLine, processors: u32, records: &[Record]) -> bool
     ensures { IsTrue result ↔ HasReplySoFar processors records.now line.now }
 {
@@ -184,7 +189,8 @@ fn has_reply_so_far(line: &EndLine, processors: u32, records: &[Record]) -> bool
     }
 }
 
-/// Returns whether a reply to this processor matches, or one to any processor if `cpu` is `None`.
+/// Returns whether a reply to processor `cpu` matches. If `cpu` is `None`, a reply to any processor
+/// counts.
 fn is_answered(reply: &Pattern, cpu: Option<Cpu>, processors: u32, records: &[Record]) -> bool
     ensures { IsTrue result ↔ HasAnswer reply.now (replies_below processors records.now) cpu }
 {
@@ -218,7 +224,7 @@ fn is_answered_at(
     }
 }
 
-/// Returns whether a reply to any processor matches.
+/// Returns whether any processor got a reply that matches.
 fn is_told_to_any(reply: &Pattern, processors: u32, records: &[Record]) -> bool
     ensures { IsTrue result ↔ HasAnswer reply.now (replies_below processors records.now) None }
 {
@@ -246,7 +252,7 @@ fn is_told(reply: &Pattern, cpu: Cpu, records: &[Record]) -> bool
     false
 }
 
-/// Returns the reply to the processor after `earlier` others.
+/// Returns the reply to the processor after `earlier` others, if it has come.
 fn reply_at(cpu: Cpu, earlier: u64, records: &[Record]) -> Option<Reply>
     ensures { result ≡ slice_get (replies_to cpu records.now) earlier }
 {
@@ -277,7 +283,8 @@ fn calls_by(cpu: Cpu, records: &[Record]) -> usize
     calls
 }
 
-/// Returns the reply with 0 in place of the number of an opened operation, as an end has it.
+/// Returns the reply as an end has it, with 0 in place of the number of an operation that a Begin
+/// opened.
 fn told(reply: &Reply) -> Reply
     ensures { result ≡ told reply.now }
 {

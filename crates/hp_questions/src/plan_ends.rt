@@ -52,7 +52,8 @@ pub fn all_plan_ends(
     Ok(ends)
 }
 
-/// Returns the replies to the calls of the script at `index`, or none if there are none for it.
+/// Returns the replies to the calls of the script at `index`, or no replies if `all` has none for
+/// this script.
 fn replies_of(all: &[Replies], index: usize) -> &[Reply]
     ensures { result.now ≡ slice_index_or all.now index [] }
 {
@@ -107,7 +108,7 @@ fn end_of(finished: &Option<FinishedLine>) -> Option<OpEnd>
     }
 }
 
-/// Returns the end of the plan, if the answer is one.
+/// Returns the end of a plan, if the answer to a line is one.
 fn end_in(answer: &Option<LineAnswer>) -> Option<OpEnd>
     ensures { result ≡ end_answered answer.now }
 {

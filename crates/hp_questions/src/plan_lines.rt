@@ -14,14 +14,14 @@ use std::alloc::{AllocError, Global};
 pub enum EndPattern {
     /// The plan was committed.
     Done,
-    /// Another call ended the plan's operation.
+    /// The plan's operation was undone, or another call ended it.
     Undone,
     /// The Begin was refused, and the refusal matches.
     Refused(Pattern),
     /// The plan was cancelled, for any reason.
     Cancelled,
-    /// The plan was cancelled, and its last refusal matches; if `why` is `None`, there was none.
-    /// `restored` is whether its steps were dropped.
+    /// The plan was cancelled, and its last refusal matches `why`; with `None`, it had no refusal.
+    /// `restored` is whether the Cancel dropped its steps.
     CancelledAs {
         why: Option<Pattern>,
         restored: bool,
@@ -42,8 +42,8 @@ impl EndPattern {
         }
     }
 
-    /// Returns whether, by these replies, one of this processor's plans has a matching end, or one
-    /// of any processor's if `cpu` is `None`.
+    /// Returns whether, by the replies in `all`, a plan of processor `cpu` has an end that matches.
+    /// If `cpu` is `None`, a plan of any processor counts.
     pub(crate) fn is_end_of(
         &self,
         alloc: Global,
@@ -59,8 +59,8 @@ impl EndPattern {
         Ok(self.is_reached(ends.as_slice(), cpu))
     }
 
-    /// Returns whether one of this processor's ends matches, or one of any processor's if `cpu` is
-    /// `None`.
+    /// Returns whether a plan of processor `cpu` has an end that matches. If `cpu` is `None`, a
+    /// plan of any processor counts.
     fn is_reached(&self, all: &[PlanEnds], cpu: Option<Cpu>) -> bool
         ensures { IsTrue result ↔ HasPlanEnd self.now all.now cpu }
     {
@@ -73,7 +73,7 @@ impl EndPattern {
         }
     }
 
-    /// Returns whether one of any processor's ends matches.
+    /// Returns whether any processor has an end that matches.
     fn is_among_all(&self, all: &[PlanEnds]) -> bool
         ensures { IsTrue result ↔ HasPlanEnd self.now all.now None }
     {
@@ -98,7 +98,7 @@ impl EndPattern {
     }
 }
 
-/// Returns whether the Begin was refused, and the refusal matches.
+/// Returns whether the plan's Begin was refused, and the refusal matches.
 fn is_refused_as(refusal: &Pattern, end: &OpEnd) -> bool
     ensures { IsTrue result ↔ IsRefusedAs refusal.now end.now }
 {
@@ -108,8 +108,8 @@ fn is_refused_as(refusal: &Pattern, end: &OpEnd) -> bool
     }
 }
 
-/// Returns whether the plan was cancelled, its last refusal matches, and its steps were dropped
-/// exactly if `restored` is true.
+/// Returns whether the plan was cancelled, its last refusal matches `why`, and the Cancel dropped
+/// its steps exactly if `restored` is true. If `why` is `None`, there must be no refusal.
 fn is_cancelled_as(why: &Option<Pattern>, restored: bool, end: &OpEnd) -> bool
     ensures { IsTrue result ↔ IsCancelledAs why.now restored end.now }
 {

@@ -123,7 +123,7 @@ fn cause(why: &str) -> Option<Option<Pattern>>
     }
 }
 
-/// Parses what the Cancel did.
+/// Parses what the Cancel did: `restored` or `released`.
 #[tactic(auto, unfolding(crate::specs::WantedLines::cancelled_as))]
 fn cancelled_as(why: Option<Pattern>, what: &str) -> Option<EndPattern>
     ensures { result ≡ says.cancelled_as why what.now }

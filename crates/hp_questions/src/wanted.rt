@@ -36,7 +36,7 @@ pub enum EndLine {
         cpu: Option<Cpu>,
         end: EndPattern,
     },
-    /// The memory block has this row at the end. Rows never name an operation here.
+    /// The memory block has this row at the end. The row of an end never names an operation.
     Block {
         block: Block,
         row: Row,
@@ -46,9 +46,9 @@ pub enum EndLine {
 /// What is wanted of an end.
 #[derive(Clone, Copy, PartialEq, Eq, Drop)]
 pub enum Wanted {
-    /// That it has the line.
+    /// The end has the line.
     Has(EndLine),
-    /// That it lacks the line.
+    /// The end does not have the line.
     Lacks(EndLine),
 }
 
@@ -75,7 +75,7 @@ impl Pattern {
         false
     }
 
-    /// Returns whether one of any processor's replies matches.
+    /// Returns whether any processor has a reply that matches.
     fn is_among_all(&self, all: &[Replies]) -> bool
         ensures { IsTrue result ↔ HasAnswer self.now all.now None }
     {
@@ -87,8 +87,8 @@ impl Pattern {
         false
     }
 
-    /// Returns whether one of this processor's replies matches, or one of any processor's if `cpu`
-    /// is `None`.
+    /// Returns whether processor `cpu` has a reply that matches. If `cpu` is `None`, a reply to any
+    /// processor counts.
     fn is_answered(&self, all: &[Replies], cpu: Option<Cpu>) -> bool
         ensures { IsTrue result ↔ HasAnswer self.now all.now cpu }
     {
@@ -149,7 +149,8 @@ impl EndLine {
 }
 
 impl Wanted {
-    /// Returns whether the end meets this.
+    /// Returns whether the end meets the wanted line: it has the line, or it does not have the line
+    /// that it must not have.
     fn is_met_by(
         &self,
         alloc: Global,
@@ -166,8 +167,8 @@ impl Wanted {
     }
 }
 
-/// Returns whether the end of these scripts has all wanted lines, and none that it should lack.
-/// `cpus` is the number of processors of the layout.
+/// Returns whether the end of these scripts has all lines that it must have, and none that it must
+/// not have. `cpus` is the number of processors of the layout.
 ///
 /// Allocates only for lines about plans.
 pub fn are_met(
@@ -187,7 +188,7 @@ pub fn are_met(
     Ok(true)
 }
 
-/// Returns whether this is the memory block's row.
+/// Returns whether the memory block has this row.
 fn has_row(rows: &[Row], block: Block, row: &Row) -> bool
     ensures { IsTrue result ↔ (slice_get rows.now block ≡ Some row.now) }
 {
@@ -204,7 +205,8 @@ fn same_row(row: &Row, other: &Row) -> bool
     *row == *other
 }
 
-/// Returns whether the reply is a refusal for the same reason.
+/// Returns whether the reply is a refusal for the same reason as `wanted`, whatever frame or block
+/// either names.
 fn is_of_kind(wanted: Refusal, reply: &Reply) -> bool
     ensures { IsTrue result ↔ IsKindOf wanted reply.now }
 {

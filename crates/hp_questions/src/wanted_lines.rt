@@ -179,7 +179,8 @@ fn reply_after_space(words: &[&str]) -> Option<Pattern>
     }
 }
 
-/// Parses which of a processor's replies is meant: `CPU` or `cpu CPU answer NUMBER`.
+/// Parses the words before the colon of a wanted reply: `CPU` for any reply to this processor, or
+/// `cpu CPU answer NUMBER` for one of its replies.
 #[tactic(auto, unfolding(crate::specs::WantedLines::answer_by))]
 fn line_by_words(who: &[&str], reply: Pattern) -> Option<EndLine>
     ensures { result ≡ says.answer_by (map (λ w. w.now) who.now) reply }
@@ -211,7 +212,8 @@ fn named_answer(
     }
 }
 
-/// Parses the processor that got the reply at some time.
+/// Parses the number of a processor, and returns the wanted line that it gets the reply at any
+/// time.
 fn some_answer(cpu: &str, reply: Pattern) -> Option<EndLine>
     ensures { result ≡ option_map (λ c. Answer (Some c) reply) (number_of 32 cpu.now) }
 {
@@ -219,7 +221,8 @@ fn some_answer(cpu: &str, reply: Pattern) -> Option<EndLine>
     Some(EndLine::Answer { cpu, reply })
 }
 
-/// Parses the processor that got the reply, and the number of that reply, counted from 1.
+/// Parses the number of a processor and the number of a reply to it, counted from 1. Returns the
+/// wanted line for this reply.
 #[tactic(auto, unfolding(crate::specs::WantedLines::numbered_answer))]
 fn numbered_answer(cpu: &str, number: &str, reply: Pattern) -> Option<EndLine>
     ensures { result ≡ says.numbered_answer cpu.now number.now reply }

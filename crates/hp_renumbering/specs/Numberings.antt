@@ -13,6 +13,7 @@ index_of op (x ∷ xs) = if x == op then Some 0 else option_map suc (index_of op
 abbrev pub place_of : (fixed : ℕ) → (latest : List ℕ) → (op : ℕ) → Option ℕ
 place_of fixed latest op = if nat_le op fixed then None else index_of op latest
 
--- an odd number for a processor's latest operation, and twice the operation for any other
+-- 2k + 1 for the latest operation of processor k if it is above `fixed`, and twice the operation's
+-- own number for any other
 abbrev pub number_of : (fixed : ℕ) → (latest : List ℕ) → (op : ℕ) → ℕ
 number_of fixed latest op = option_map_or (λ place. 2 * place + 1) (place_of fixed latest op) (2 * op)

@@ -27,7 +27,7 @@ abbrev pub renumbered_reply : (ℕ → ℕ) → Reply → Reply
 renumbered_reply f (Opened op) = Opened (f op)
 renumbered_reply f reply = reply
 
--- the claim with another number for its operation
+-- the claim (an operation's hold on a memory block) with another number for its operation
 abbrev pub renumbered_claim : (ℕ → ℕ) → Claim → Claim
 renumbered_claim f claim = record { op = f claim.op; wish = claim.wish }
 

@@ -6,10 +6,12 @@ ghost use Rattle.hp_units.specs.Step.{step};
 ghost use Rattle.hp_units.specs.declared.events.Event.{Event};
 ghost use Rattle.hp_renumbering.specs.Renumbered.{IsOneToOne, renumbered, renumbered_answer, renumbered_event};
 
-/// A step does not depend on the numbers of operations. If they get other numbers, no two of them the
-/// same, and the step itself too, it leads to the same state with these numbers, and has the same reply
-/// with them. So from states that are the same but for these numbers, events that are the same but for
-/// them have the same reply.
+/// A step does not depend on the numbers of operations. Let a one-to-one function renumber the
+/// serial of a step, and the operations in its state and its event. Then the same function
+/// renumbers the operations in the new state and the reply, and nothing else changes.
+///
+/// So two steps have the same reply if their states and events become equal, and their common
+/// serial gets the same number, when one-to-one functions renumber the operations.
 pub fn steps_are_renumbered()
     ensures step { (f : ℕ → ℕ) (l : LayoutParts) (s : Memory) (serial cpu : ℕ) (e : Event) → IsOneToOne f
         → step l (renumbered f s) (f serial) cpu (renumbered_event f e)

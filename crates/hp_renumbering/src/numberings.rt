@@ -9,7 +9,7 @@ use hp_units::Serial;
 /// Returns the index of the processor whose latest operation is `op`, if any. `latest` has the
 /// latest operation of each processor.
 ///
-/// An operation with a number up to `fixed` has no processor here: a script may name it by its number.
+/// Returns `None` for an operation up to `fixed`, because a script may name it by its number.
 pub fn place_of(fixed: Serial, latest: &[Serial], op: Serial) -> Option<usize>
     ensures { result ≡ place_of fixed latest.now op }
 {
@@ -19,8 +19,8 @@ pub fn place_of(fixed: Serial, latest: &[Serial], op: Serial) -> Option<usize>
     index_of(latest, op)
 }
 
-/// Returns a number for the operation: an odd one for the latest operation of a processor, by the
-/// processor, and twice its own number for any other.
+/// Returns a number for the operation: 2k + 1 if it is above `fixed` and is the latest operation of
+/// processor k, and twice its own number otherwise.
 ///
 /// Returns `None` if the number is 2^64 or greater.
 pub fn number_of(fixed: Serial, latest: &[Serial], op: Serial) -> Option<u64>
@@ -33,8 +33,8 @@ pub fn number_of(fixed: Serial, latest: &[Serial], op: Serial) -> Option<u64>
     }
 }
 
-/// No two operations have the same number. An operation that is later than all latest ones has twice
-/// its own number, and so has one that a script may name.
+/// `number_of` gives no two operations the same number. An operation above all of `latest` gets
+/// twice its own number, and so does an operation up to `fixed`.
 pub fn numbers_differ()
     ensures differ { (fixed : ℕ) (latest : List ℕ) → IsOneToOne (number_of fixed latest) }
     ensures later { (fixed : ℕ) (latest : List ℕ) (op : ℕ) → AllByRecursion (λ other. other < op) latest

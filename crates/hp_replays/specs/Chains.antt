@@ -17,18 +17,20 @@ pub record StandsAfter (l : LayoutParts) (volumes : List Volume) (at : ℕ) (v :
   pub here : slice_get volumes at ≡ Some v
   pub chain : IsChain l (take at volumes)
 
--- such a volume has a wrong count of earlier records
+-- the volume at this place is the first at fault: its count of earlier records is wrong
 pub record HasWrongCount (l : LayoutParts) (volumes : List Volume) (at : ℕ) (v : Volume) : Type 0 where
   pub first : StandsAfter l volumes at v
   pub count : v.before ≢ records_in (take at volumes)
 
--- such a volume has the right count and a wrong base
+-- the volume at this place is the first at fault: its count of earlier records is right, its base
+-- wrong
 pub record HasWrongBase (l : LayoutParts) (volumes : List Volume) (at : ℕ) (v : Volume) : Type 0 where
   pub first : StandsAfter l volumes at v
   pub count : v.before ≡ records_in (take at volumes)
   pub base : v.base ≢ pictured l (state_after l (take at volumes))
 
--- such a volume has the right count and base, and its records have a fault
+-- the volume at this place is the first at fault: its count of earlier records and its base are
+-- right, and its records have this fault
 pub record HasWrongRecords (l : LayoutParts) (volumes : List Volume) (at : ℕ) (v : Volume)
     (fault : ReplayFault) : Type 0 where
   pub first : StandsAfter l volumes at v
@@ -63,7 +65,7 @@ abbrev pub sealed_after : CourseValue → Volume → CourseValue
 sealed_after end v =
     started end.layout (value_of end.layout end.base v.records) (end.before + length v.records)
 
--- the fault of a volume at this place after such a course
+-- the fault of a volume at this place, if it does not follow a course that was just sealed
 abbrev pub IsFaultAfter : CourseValue → (at : ℕ) → Volume → ChainFault → Type 0
 IsFaultAfter end at v (WrongCount place) = (place ≡ at) × (v.before ≢ end.before)
 IsFaultAfter end at v (WrongBase place) =

@@ -14,13 +14,14 @@ pub record ComesAt (l : LayoutParts) (base : Memory) (before : ℕ) (h : List Re
   pub here : slice_get h at ≡ Some r
   pub legal : IsLegal l base before (take at h)
 
--- its serial is not the next one
+-- the record at this place is the first at fault: its serial is not the next one
 pub record HasWrongSerial (l : LayoutParts) (base : Memory) (before : ℕ) (h : List Record) (at : ℕ)
     (r : Record) : Type 0 where
   pub first : ComesAt l base before h at r
   pub serial : r.serial ≢ before + at + 1
 
--- its serial is the next one, and its reply is not the one that the definitions give
+-- the record at this place is the first at fault: its serial is the next one, but its reply is not
+-- the one that the definitions give
 pub record HasWrongReply (l : LayoutParts) (base : Memory) (before : ℕ) (h : List Record) (at : ℕ)
     (r : Record) : Type 0 where
   pub first : ComesAt l base before h at r
@@ -59,7 +60,7 @@ pub record IsFollowed (old : CourseValue) (r : Record) (new : CourseValue) : Typ
   pub before : new.before ≡ old.before
   pub base : new.base ≡ old.base
 
--- the fault of a record at this place after those of a course: its serial is not the next one, or
+-- the fault of a record at this place after those of a course. Its serial is not the next one, or
 -- its reply is not the one that the definitions give
 abbrev pub IsFaultHere : CourseValue → (at : ℕ) → Record → ReplayFault → Type 0
 IsFaultHere c at r (WrongSerial place) = (place ≡ at) × (r.serial ≢ last_serial c + 1)

@@ -2,14 +2,14 @@
 use Rattle.std.specs.Prelude.{ℕ}
 use Rattle.hp_units.specs.LayoutParts.{LayoutParts}
 
--- its memory blocks
+-- the sizes of a layout's memory blocks
 abbrev pub blocks_of : LayoutParts → ℕ × ℕ × ℕ
 blocks_of l = (l.order, l.pageblocks, l.blocks)
 
--- its processors
+-- the number of a layout's processors, and the sizes of their lists
 abbrev pub processors_of : LayoutParts → ℕ × ℕ × ℕ
 processors_of l = (l.cpus, l.batch, l.high)
 
--- its owners, and the limit of its records
+-- the sizes of a layout's owners and pages, and its limit of records
 abbrev pub owners_of : LayoutParts → ℕ × ℕ × ℕ × ℕ
 owners_of l = (l.owners, l.pages, l.words, l.history)

@@ -42,9 +42,9 @@ impl From<AllocError> for ChainFault {
     }
 }
 
-/// Returns the state that volumes lead to from boot, if each follows those before it: it was sealed
-/// after as many records as they hold, its base is the state that they lead to, and its records are
-/// a legal history over it. Without volumes, that is the state at boot.
+/// Returns the state that volumes lead to from boot, if each follows those before it. That is: it
+/// was sealed after as many records as they hold, and its base is the state that they lead to. Its
+/// records must be a legal history over that base. Without volumes, the state is the one at boot.
 ///
 /// Time is linear in the records and in the volumes' bases, and memory in the longest volume.
 pub fn audit_chain(alloc: Global, layout: &Layout, volumes: &[Volume]) -> Result<Image, ChainFault>

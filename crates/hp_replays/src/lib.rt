@@ -1,8 +1,9 @@
 //! Replays histories: decides whether records are a legal history, and whether sealed volumes
 //! follow one another.
 //!
-//! It owns both results and their faults. A journal replies to the events of the records again, and
-//! each reply is compared with the record's. It keeps no history and knows nothing of the layers.
+//! The crate owns both results and their faults. A journal replies to the events of the records
+//! again, and each reply is compared with the record's. The crate keeps no history and knows
+//! nothing of the layers.
 //!
 //! Read specs/Replaying and specs/Chains first (which record or volume is the first at fault), then
 //! `replaying` and `chains`.

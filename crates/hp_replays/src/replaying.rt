@@ -15,7 +15,7 @@ use std::alloc::{AllocError, Global};
 /// before its reply. `OutOfMemory` may come in place of any other.
 #[derive(Clone, Copy, Debug, PartialEq, Eq, Drop)]
 pub enum ReplayFault {
-    /// The record with this serial has another reply than the plain machine gives.
+    /// The record with this serial has another reply than the definitions give.
     WrongReply { serial: Serial },
     /// The record at this place, counted from 0, does not have the next serial.
     WrongSerial { at: u64 },

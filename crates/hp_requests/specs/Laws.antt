@@ -17,13 +17,15 @@ file_name RemovableFile = codes "removable"
 abbrev pub block_path : ℕ → BlockFile → List ℕ
 block_path block file = (codes "memory" ++ decimal block) ++ (codes "/" ++ file_name file)
 
--- a path is a file of a memory block if and only if it is spelled like this
+-- a path is a file of a memory block if and only if it is spelled as `block_path`, and the block's
+-- number is below 2^32
 abbrev pub BlockPathsAreSpelled : Type 0
 BlockPathsAreSpelled =
     (path : List ℕ) (block : ℕ) (file : BlockFile)
     → (file_at path ≡ Some (OfBlock block file)) ↔ ((path ≡ block_path block file) × (block < 2 ^ 32))
 
--- a text is an address if and only if it is `0x` and 1 to 16 hexadecimal digits, which write it
+-- a text is an address if and only if it is `0x` and 1 to 16 hexadecimal digits that write the
+-- address
 abbrev pub AddressesAreSpelled : Type 0
 AddressesAreSpelled =
     (text : List ℕ) (address : ℕ)

@@ -34,9 +34,10 @@ pub enum File {
 }
 
 /// Returns the control file at a path, relative to the directory of memory devices (Linux guide,
-/// Memory Hot(Un)Plug): `block_size_bytes`, `buddyinfo`, `probe`, `auto_online_blocks`, or
-/// `memoryN/` and `state`, `online`, `valid_zones` or `removable`, with N in decimal and below
-/// 2^32. Returns `None` for any other path. No machine is read: the block need not be in a layout.
+/// Memory Hot(Un)Plug). The paths are `block_size_bytes`, `buddyinfo`, `probe`,
+/// `auto_online_blocks`, and `memoryN/` followed by `state`, `online`, `valid_zones` or
+/// `removable`, with N in decimal and below 2^32. Returns `None` for any other path. No machine is
+/// read: the block need not be in a layout.
 #[tactic(auto, unfolding(crate::specs::Files::file_at))]
 pub fn file_at(path: &str) -> Option<File>
     ensures { result ≡ means.file_at path.now }

@@ -22,16 +22,17 @@ pub enum Request {
 }
 
 /// Parses bytes written to the control file at `path` (Linux guide, Memory Hot(Un)Plug). Drops one
-/// final newline; the rest must be one of the words below. No machine is read: a block that is not
-/// there is refused later.
+/// final newline; the rest must be one of the words below. No machine is read: a block that does
+/// not exist is refused later.
 ///
 /// `memoryN/state`: `online` and `online_kernel` for zone Normal, `online_movable` for zone
 /// Movable, `offline`. `memoryN/online`: `1` for zone Normal, `0` for offline. `probe`: `0x` and 1
 /// to 16 hexadecimal digits, a byte address. `auto_online_blocks`: `offline`, `online`,
 /// `online_kernel` or `online_movable`.
 ///
-/// Errors, in this order: `NoFile` for another path; `ReadOnly` for another file; `BadText`;
-/// `OutOfMemory`, which may come in place of any other result.
+/// Errors, in this order: `NoFile` if `path` is not that of a control file; `ReadOnly` if the file
+/// is none of these; `BadText` if the text is none of its words; `OutOfMemory`, which may come in
+/// place of any other result.
 #[tactic(auto, unfolding(crate::specs::Writes::request_of))]
 pub fn parse_write(alloc: Global, path: &str, bytes: &[u8]) -> Result<Request, ControlFault>
     ensures { Gives (λ request. request) result (means.request_of path.now bytes.now) }

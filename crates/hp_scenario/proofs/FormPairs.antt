@@ -91,4 +91,5 @@ pub of_pairs : (boot : List Boot) (l : Data) (a b c d e : Option (ℕ × ℕ))
     → a ≡ pair_at (codes "order") (codes "pageblocks") l → b ≡ pair_at (codes "blocks") (codes "cpus") l
     → c ≡ pair_at (codes "batch") (codes "high") l → d ≡ pair_at (codes "owners") (codes "pages") l
     → e ≡ pair_at (codes "words") (codes "history") l → parts_of_pairs boot a b c d e ≡ parts_with boot l
-of_pairs boot l a b c d e one two three four five = rw (one, two, three, four, five) (sym (parts_paired boot l))
+of_pairs boot l a b c d e one two three four five =
+    rw (one, two, three, four, five) (sym (parts_paired boot l))

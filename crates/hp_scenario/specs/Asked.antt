@@ -9,8 +9,8 @@ use Rattle.hp_requests.specs.declared.writes.Request.TheVariants as request
 use Rattle.hp_scenario.specs.declared.lines.Work.{Work}
 use Rattle.hp_scenario.specs.declared.lines.Work.TheVariants as work
 
--- an event; a plan with its turns; nothing, since a control file does not take the word; a control
--- file to read; or a seal
+-- an event; a plan, with the most migrations that it may try; nothing, since a control file does
+-- not take the word; a control file to read; or a seal
 pub data Meaning : Type 0 where
   event : Event → Meaning
   plan : (items : List Item) → (turns : ℕ) → Meaning

@@ -11,30 +11,31 @@ use Rattle.hp_scenario.specs.declared.calls.Next.{Next}
 use Rattle.hp_scenario.specs.declared.calls.Next.TheVariants.{Another, End, Unsure}
 use Rattle.hp_scenario.specs.declared.lines.Line.{Line}
 
--- the tokens before the first line
+-- `old` begins with the tokens of the layout and the beginning of `calls`; `new` are left, from the
+-- first line on
 abbrev pub IsFront : LayoutParts → List Token → List Token → Type 0
 IsFront layout old new =
     (b : List Token) × (old ≡ begin_object ∷ key (codes "layout") ∷ b)
     × IsLayoutAt layout b (key (codes "calls") ∷ begin_array ∷ new)
 
--- no line was taken yet
+-- the layout of the scenario in `bytes` was read, and no line was taken yet
 abbrev pub IsOpened : List ℕ → Calls → Type 0
 IsOpened bytes calls =
     IsUtf8 bytes × IsFront calls.layout (tokens bytes) calls.reader × (calls.names.keys ≡ [])
 
--- a line was taken
+-- one line was taken: the next text, read with the names so far
 abbrev pub Passes : Calls → Line → Calls → Type 0
 Passes old line new =
     (text : List ℕ) × (old.reader ≡ string text ∷ new.reader)
     × (line_in old.names.keys text ≡ Some (record { names = new.names.keys; line = line }))
     × (new.layout ≡ old.layout)
 
--- no line is left, and nothing else
+-- no line was left, only the end of the scenario; the names and the layout stay
 abbrev pub Ends : Calls → Calls → Type 0
 Ends old new =
     (old.reader ≡ end_array ∷ end_object ∷ []) × (new.names.keys ≡ old.names.keys) × (new.layout ≡ old.layout)
 
--- what came next
+-- what came next: a line, or the end; Unsure says nothing
 abbrev pub Goes : Calls → Next → Calls → Type 0
 Goes old (Another line) new = Passes old line new
 Goes old End new = Ends old new
@@ -48,6 +49,6 @@ HasPassed old lines new =
     ≡ Ok (record { names = new.names.keys; lines = lines }))
     × (new.layout ≡ old.layout)
 
--- these are all lines, and they were taken
+-- these lines were taken, and then the scenario ended
 abbrev pub AreAll : Calls → List Line → Calls → Type 0
 AreAll old lines new = (last : Calls) × HasPassed old lines last × Ends last new

@@ -1,4 +1,4 @@
--- The value of a word that is written to a control file.
+-- The parts of an `echo`: the path of a control file, and the word that is written to it.
 use Rattle.std.specs.Prelude.{ℕ, List}
 
 pub record EchoValue : Type 0 where

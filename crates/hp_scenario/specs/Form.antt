@@ -14,7 +14,7 @@ infixl 10 ◌>>=◌
 abbrev pub ◌>>=◌ : {A B : Type 0} → Option A → (A → Option B) → Option B
 o >>= f = option_and_then f o
 
--- `n` members
+-- there are members, and exactly `n` of them
 abbrev pub are_keys : ℕ → Option Members → Bool
 are_keys n None = false
 are_keys n (Some ms) = members_len ms == n
@@ -23,7 +23,7 @@ are_keys n (Some ms) = members_len ms == n
 unfoldable pub has_keys : ℕ → Data → Bool
 has_keys n d = are_keys n (as_object d)
 
--- the number at a key
+-- the number at a key, if it is a whole number of 64 bits
 unfoldable pub number_at : List ℕ → Data → Option ℕ
 number_at key d = option_and_then as_u64 (option_and_then as_number (get key d))
 
@@ -96,7 +96,7 @@ parts_with boot d = do
     boot = boot;
   })
 
--- an object with exactly the eleven keys of a layout
+-- the parts of a layout, from an object with exactly the eleven keys of a layout
 unfoldable pub parts_of : Data → Option LayoutParts
 parts_of d = if has_keys 11 d then (boots_at (codes "boot") d >>= λ boot. parts_with boot d) else None
 
@@ -112,7 +112,7 @@ form_with parts calls = do
   c ← calls
   Some (record { parts = p; calls = c })
 
--- an object with exactly the keys `layout` and `calls`
+-- the form of a scenario, from an object with exactly the keys `layout` and `calls`
 unfoldable pub form_of : Data → Option Form
 form_of d = if has_keys 2 d then (do
   layout ← get (codes "layout") d

@@ -13,7 +13,7 @@ abbrev pub or_fault : {A : Type 0} → ScenarioFault → Option A → Result A S
 or_fault fault None = Err fault
 or_fault fault (Some x) = Ok x
 
--- out of memory may come in place of any result
+-- the fault is that of the result `read`; out of memory may come in place of any result
 abbrev pub Fails : {A : Type 0} → ScenarioFault → Result A ScenarioFault → Type 0
 Fails OutOfMemory read = Unit {0}
 Fails fault read = read ≡ Err fault

@@ -30,7 +30,7 @@ event e = plain (work.Event e)
 
 -- ---- words by their kind
 
--- the number that the only word is
+-- the number below 2^`bits` that the only word is
 unfoldable pub only_number : (bits : ℕ) → List (List ℕ) → Option ℕ
 only_number bits (word ∷ []) = number_of bits word
 only_number bits _ = None

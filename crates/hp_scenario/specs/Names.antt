@@ -44,6 +44,6 @@ numbered names said = record {
   line = record { cpu = said.cpu; work = work_of names said.request };
 }
 
--- the line in a text after these names, and the names after it
+-- the line in a text, given the names of the lines before it; and the names after it
 unfoldable pub line_in : List (List ℕ) → List ℕ → Option Numbered
 line_in names text = option_map (numbered names) (line_says text)

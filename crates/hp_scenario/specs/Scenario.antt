@@ -26,11 +26,11 @@ pub record Script : Type 0 where
 abbrev pub nothing : Script
 nothing = record { names = []; lines = [] }
 
--- one more line
+-- the script with one more line, and with the names after it
 abbrev pub with_line : Script → Numbered → Script
 with_line script n = record { names = n.names; lines = script.lines ++ n.line ∷ [] }
 
--- the lines in the texts, of which the first has number `at`, after the lines so far
+-- the lines so far and then those in the texts, of which the first has number `at`
 unfoldable pub lines_from : ℕ → Script → List (List ℕ) → Result Script ScenarioFault
 lines_from at script [] = Ok script
 lines_from at script (text ∷ texts) =

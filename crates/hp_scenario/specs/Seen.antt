@@ -1,4 +1,4 @@
--- The values of a scenario and of a line.
+-- The values of a scenario and of a line, as a contract sees them.
 use Rattle.hp_scenario.specs.Asked as asks
 use Rattle.hp_scenario.specs.Lines as said
 use Rattle.hp_scenario.specs.Scenario.{ScenarioValue}

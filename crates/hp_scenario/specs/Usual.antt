@@ -19,7 +19,7 @@ abbrev pub strings_then : List (List ℕ) → List Token → List Token
 strings_then [] rest = rest
 strings_then (text ∷ texts) rest = string text ∷ strings_then texts rest
 
--- the texts up to the end of an array
+-- the tokens up to the end of an array are these texts
 abbrev pub AreTexts : List (List ℕ) → List Token → List Token → Type 0
 AreTexts texts old new = old ≡ strings_then texts (end_array ∷ new)
 
@@ -41,7 +41,7 @@ abbrev pub AreRows : List (List ℕ × ℕ) → List Token → List Token → Ty
 AreRows [] old new = old ≡ new
 AreRows (row ∷ rows) old new = (mid : List Token) × IsRow row.0 row.1 old mid × AreRows rows mid new
 
--- the members that the rows make, after those before
+-- the members `before`, and after them those that the rows make
 abbrev pub put_rows : List (List ℕ × ℕ) → Members → Members
 put_rows [] before = before
 put_rows (row ∷ rows) before = put_rows rows (put row.0 (value_of.number (unsigned row.1)) before)
@@ -53,16 +53,16 @@ rows_of n =
     ∷ (codes "cpus", n.cpus) ∷ (codes "batch", n.batch) ∷ (codes "high", n.high) ∷ (codes "owners", n.owners)
     ∷ (codes "pages", n.pages) ∷ (codes "words", n.words) ∷ (codes "history", n.history) ∷ []
 
--- the parts of numbers and of blocks at boot
+-- the parts of a layout, from its numbers and its blocks at boot
 abbrev pub parts_from : LayoutParts → List Boot → LayoutParts
 parts_from n boot = record n { boot = boot }
 
--- the words of the blocks at boot, up to the end of an array
+-- the tokens up to the end of an array are the words for the blocks' states at boot
 abbrev pub AreBoots : List Boot → List Token → List Token → Type 0
 AreBoots boot old new =
     (words : List (List ℕ)) × AreTexts words old new × (each_in boot_at (texts_data words) ≡ Some boot)
 
--- the key `boot` with these words, up to the end of the layout
+-- the tokens up to the end of the layout are the key `boot` and the words for these states
 abbrev pub EndsWithBoots : List Boot → List Token → List Token → Type 0
 EndsWithBoots boot old new =
     (mid : List Token) × (old ≡ key (codes "boot") ∷ begin_array ∷ mid)
@@ -73,7 +73,7 @@ abbrev pub IsLayoutAt : LayoutParts → List Token → List Token → Type 0
 IsLayoutAt layout old new =
     (d : Data) × Reads 126 d old new × (parts_of d ≡ Some layout) × (layout_fault layout ≡ None)
 
--- the lines in texts, up to the end of an array
+-- the tokens up to the end of an array are the texts of these lines
 abbrev pub AreLines : Script → List Token → List Token → Type 0
 AreLines script old new =
     (texts : List (List ℕ)) × AreTexts texts old new × (lines_from 1 nothing texts ≡ Ok script)

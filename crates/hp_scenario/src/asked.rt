@@ -23,7 +23,8 @@ pub enum Asked<'a> {
 }
 
 impl Work {
-    /// Returns what the work asks for. A plan that an `echo` asks for has `CONTROL_TURNS` turns.
+    /// Returns what the work asks for. A plan that an `echo` asks for tries at most `CONTROL_TURNS`
+    /// migrations.
     #[inline(always)]
     #[tactic(auto, unfolding(crate::specs::Asked::asked_by))]
     pub fn asked(&self) -> Asked<'_>

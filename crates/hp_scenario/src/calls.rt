@@ -130,7 +130,8 @@ impl<'a> Calls<'a> {
     }
 }
 
-/// Takes all lines. Returns whether the scenario ended after them, without a fault.
+/// Takes all lines. Returns whether the scenario then ended without a fault; `false` may also mean
+/// that it goes on in another form.
 fn take_all(alloc: Global, calls: &mut Calls<'_>, lines: &mut Vec<Line>) -> Result<bool, AllocError>
     requires { lines.old.items ≡ [] }
     ensures { IfOk result (λ sure. IsTrue sure → AreAll calls.old lines.new.items calls.new) }

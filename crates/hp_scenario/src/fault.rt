@@ -21,8 +21,8 @@ pub enum ScenarioFault {
     /// A string of `calls` is not a line; lines are counted from 1.
     #[error("line {line} not understood")]
     BadLine { line: u64 },
-    /// A line that no worker may run: it reads a control file, or its processor is not in the
-    /// layout; lines are counted from 1.
+    /// No worker (a thread of `hotplug run`) may run the line: it reads a control file, or its
+    /// processor is not in the layout. Lines are counted from 1.
     #[error("line {line} not for run")]
     NotForRun { line: u64 },
     /// Out of memory.

@@ -31,7 +31,8 @@ fn number_at(value: &Value, key: &str) -> Option<u64>
     value.get(key)?.as_u64()
 }
 
-/// Returns the numbers at two keys, or `None` if one is missing.
+/// Returns the numbers at two keys, or `None` if one is missing or is not an unsigned 64-bit
+/// integer.
 #[tactic(auto, unfolding(crate::specs::Form::pair_at))]
 fn pair_at(value: &Value, first: &str, second: &str) -> Option<(u64, u64)>
     ensures { result ≡ pair first.now second.now (view value.now) }

@@ -1,8 +1,9 @@
-//! A law of the lines, in plain terms.
+//! A law of the lines: how each is spelled.
 ghost use Rattle.hp_scenario.specs.Spelling.{LinesAreSpelled};
 
-/// A text is a line if and only if it is the line's words between single spaces, and the line can
-/// be written: its numbers fit, its name is a name, and its texts have no space.
+/// A text is read as a line if and only if it is the words of that line, joined by single spaces,
+/// and the line can be written. A line can be written if its event has a verb, its numbers fit, its
+/// owner's name is a name, and its other words are not empty and have no space.
 pub fn lines_are_spelled()
     ensures { LinesAreSpelled }
 {}

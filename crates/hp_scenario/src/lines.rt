@@ -17,7 +17,7 @@ pub enum Work {
     Echo(Echo),
     /// A control file to read.
     Cat { path: Text },
-    /// A seal: the records since the last one are handed out.
+    /// A seal: the records since the last seal are handed out.
     Seal,
 }
 

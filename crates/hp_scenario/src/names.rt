@@ -1,4 +1,4 @@
-//! Numbers names in the order in which they first occur.
+//! Reads lines, and gives owners' names numbers in the order in which they first occur.
 ghost use Rattle.std.specs.Prelude.{◌≡◌, ◌^◌, ◌<◌, IfNone, IfOk, IfSome, OnErr, Some, option_map};
 ghost use Rattle.std.specs.List.{position};
 ghost use Rattle.std.specs.Str.{bytes_eq};
@@ -15,8 +15,7 @@ use std::alloc::{AllocError, Global};
 /// Reads a line, given the owners' names of the lines before it. A name that is new becomes the
 /// last.
 ///
-/// Returns `None` if the text is no line. Then the names are as before, and so they are after an
-/// error.
+/// Returns `None` if the text is no line. The names are then as before, as they are after an error.
 pub fn read_line(
     alloc: Global,
     names: &mut IndexSet<Text>,
@@ -62,7 +61,8 @@ fn numbered_work(
     names: &mut IndexSet<Text>,
     request: Request<'_>,
 ) -> Result<Work, AllocError>
-    ensures ok { IfOk result (λ work. (names.new.keys ≡ names_with names.old.keys (request_seen request.entry))
+    ensures ok { IfOk result
+        (λ work. (names.new.keys ≡ names_with names.old.keys (request_seen request.entry))
         × (work ≡ work_of names.old.keys (request_seen request.entry))) }
     ensures err { OnErr result (names.new.keys ≡ names.old.keys) }
 {
@@ -85,8 +85,8 @@ fn owner_of(alloc: Global, names: &mut IndexSet<Text>, name: &str) -> Result<Own
     Ok(Owner(index as u32))
 }
 
-/// Returns the place of a name. A new name becomes the last one. Allocates only for a name that is
-/// new, or one of many.
+/// Returns the index of a name. A new name becomes the last one. Allocates only if the name is new
+/// or there are more than 64 names.
 #[tactic(auto, using(crate::proofs::KnownNames::known_place, crate::proofs::KnownNames::known_stays))]
 fn index_of(alloc: Global, names: &mut IndexSet<Text>, name: &str) -> Result<usize, AllocError>
     ensures ok { IfOk result (λ index. (names.new.keys ≡ insert_key bytes_eq names.old.keys name.now)
@@ -105,8 +105,8 @@ fn index_of(alloc: Global, names: &mut IndexSet<Text>, name: &str) -> Result<usi
     Ok(index)
 }
 
-/// Returns the place of a name among a few, no more than a layout has owners; `None` if it is not
-/// there, or if there are more.
+/// Returns the index of a name among at most 64 names, the most owners that a layout can have.
+/// Returns `None` if the name is not there, or if there are more names.
 fn known_index(names: &IndexSet<Text>, name: &str) -> Option<usize>
     ensures is { IfSome result (λ index. position (bytes_eq name.now) names.now.keys ≡ Some index) }
     ensures low { IfSome result (λ index. index < 2 ^ 32) }

@@ -10,7 +10,8 @@ use hp_units::{number32 as any_number32, number64 as any_number64};
 /// Any number with this many digits fits into 64 bits.
 const FEW: usize = 18;
 
-/// Returns the number below 2^32 in a word, as hp_units reads it; faster if the word is plain.
+/// Returns the number below 2^32 in a word, as `hp_units` reads it. Faster for at most `FEW` digits
+/// without a leading zero.
 #[inline(always)]
 #[tactic(auto, using(crate::proofs::PlainNumbers::plain_fits))]
 pub(crate) fn number32(word: &str) -> Option<u32>
@@ -22,7 +23,7 @@ pub(crate) fn number32(word: &str) -> Option<u32>
     }
 }
 
-/// Returns the same for a word that is not a single digit.
+/// Returns the number below 2^32 in a word. Called for a word that is not a single digit.
 #[inline(never)]
 #[tactic(auto, using(crate::proofs::PlainNumbers::plain_fits, crate::proofs::PlainNumbers::plain_exceeds))]
 fn longer_number32(word: &str) -> Option<u32>
@@ -37,7 +38,8 @@ fn longer_number32(word: &str) -> Option<u32>
     Some(number as u32)
 }
 
-/// Returns the number below 2^64 in a word, as hp_units reads it; faster if the word is plain.
+/// Returns the number below 2^64 in a word, as `hp_units` reads it. Faster for at most `FEW` digits
+/// without a leading zero.
 #[tactic(auto, using(crate::proofs::PlainNumbers::plain_fits))]
 pub(crate) fn number64(word: &str) -> Option<u64>
     ensures { result ≡ number_of 64 word.now }
@@ -59,8 +61,8 @@ fn lone_digit(word: &[u8]) -> Option<u8>
     Some(word[0] - b'0')
 }
 
-/// Returns the number in a plain word of few digits. If it returns `None`, the word may still be a
-/// number.
+/// Returns the number in a word of at most `FEW` digits without a leading zero. If it returns
+/// `None`, the word may still be a number.
 #[tactic(auto, using(crate::proofs::PlainNumbers::plain))]
 fn plain_number(word: &[u8]) -> Option<u64>
     ensures { IfSome result (λ n. IsPlainNumber word.now n) }
@@ -71,7 +73,7 @@ fn plain_number(word: &[u8]) -> Option<u64>
     digits_value(word)
 }
 
-/// Returns whether there is no sign, and no 0 before another byte.
+/// Returns whether a word has no plus sign in front, and no 0 before another byte.
 fn is_bare(word: &[u8]) -> bool
     requires { 0 < length word.now }
     ensures { result ≡ bare word.now }
@@ -79,7 +81,7 @@ fn is_bare(word: &[u8]) -> bool
     word[0] != b'+' && (word.len() < 2 || word[0] != b'0')
 }
 
-/// Returns the number that a few digits write, or `None` if there is another byte.
+/// Returns the number that at most 18 digits write, or `None` if there is another byte.
 #[tactic(auto, using(crate::proofs::PlainNumbers::digits_read))]
 fn digits_value(digits: &[u8]) -> Option<u64>
     requires { length digits.now ≤ 18 }

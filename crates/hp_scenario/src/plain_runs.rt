@@ -37,7 +37,7 @@ fn stops(bytes: u8x16) -> u64
         | bytes.simd_lt(u8x16::splat(0x20))).to_bitmask()
 }
 
-/// The same byte by byte, for the end of a text.
+/// Returns the same place as `plain_end`, looking at one byte per step. Used for the end of a text.
 #[inline(never)]
 fn plain_end_slowly(text: &[u8], from: usize) -> usize
     requires { from ≤ length text.now }

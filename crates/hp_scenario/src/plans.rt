@@ -35,7 +35,7 @@ fn item_from(wish: &str, block: &str) -> Option<Item>
     Some(Item { block, wish })
 }
 
-/// Returns what a word makes of a memory block.
+/// Returns the wish that a word names: what becomes of a memory block.
 #[tactic(auto, unfolding(crate::specs::Lines::wish_of))]
 fn wish_from(word: &str) -> Option<Wish>
     ensures { result ≡ says.wish_of word.now }

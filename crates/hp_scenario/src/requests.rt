@@ -10,7 +10,7 @@ use crate::words::split_words;
 use hp_units::{Cpu, Event, Page};
 use std::alloc::{AllocError, Global};
 
-/// An access to a page of an owner, whose name is beside it.
+/// An access to a page of an owner. The owner's name is beside it, in [`Request::Named`].
 #[derive(Clone, Copy)]
 pub(crate) enum Access {
     Map { page: Page },

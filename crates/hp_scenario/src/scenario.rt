@@ -30,7 +30,8 @@ pub struct Scenario {
 }
 
 impl Scenario {
-    /// Reads a scenario from its bytes. Most are read without a tree; the others by `read_any`.
+    /// Reads a scenario from its bytes. Most forms are read token by token, without a tree of JSON
+    /// values; the others by `read_any`.
     pub fn read(alloc: Global, bytes: &[u8]) -> Result<Scenario, ScenarioFault>
         ensures { Gives scenario_seen result (scenario_in bytes.now) }
     {
@@ -40,7 +41,7 @@ impl Scenario {
         Scenario::read_any(alloc, bytes)
     }
 
-    /// Reads a scenario by way of its JSON value, for bytes that `Calls` left unsure.
+    /// Reads a scenario by way of a tree of JSON values. Unlike `Calls`, reads every form.
     #[tactic(auto, unfolding(crate::specs::Scenario::scenario_in))]
     pub fn read_any(alloc: Global, bytes: &[u8]) -> Result<Scenario, ScenarioFault>
         ensures { Gives scenario_seen result (scenario_in bytes.now) }

@@ -79,7 +79,7 @@ fn first_unfit(lines: &[Line], cpus: u32) -> Option<usize>
     lines.iter().position(|line| !line.is_for_run(cpus))
 }
 
-/// Deals the lines out to their processors. All of them may be run.
+/// Deals the lines out to their processors. Each must be a line that a worker may run.
 fn dealt(alloc: Global, lines: Vec<Line>, cpus: u32) -> Result<Vec<Script>, AllocError>
     requires { list_all (is_for_run cpus) lines.items ≡ true }
     ensures { IfOk result (λ scripts. scripts.items ≡ map (script_of lines.items) (range_with_len 0 cpus)) }

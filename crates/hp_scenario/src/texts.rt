@@ -7,7 +7,7 @@ ghost use Rattle.hp_scenario.specs.Form.{each_in};
 use serde_json::Value;
 use std::marker::Model;
 
-/// Values that are all texts. A contract sees the list of these.
+/// Values that are all texts. A contract sees the list of the texts.
 #[derive(Drop)]
 pub struct Texts<'a> {
     values: &'a [Value],

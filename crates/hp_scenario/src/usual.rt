@@ -15,7 +15,7 @@ use hp_units::{Boot, Layout, LayoutFault, Parts};
 use json::Token;
 use std::alloc::{AllocError, Global};
 
-/// Reads the layout that comes next, if it has no fault.
+/// Reads the layout that comes next, if it has the usual form and no fault.
 pub(crate) fn layout_after(
     alloc: Global,
     reader: &mut PlainReader<'_>,

@@ -12,7 +12,8 @@ use crate::words::is_name;
 use hp_units::{Block, Cpu, Event, Frame, Order, Page, Serial, Text, Zone};
 use std::alloc::{AllocError, Global};
 
-/// Returns what a verb without a list asks for, with the words after it.
+/// Returns what a verb asks for, given the words after it. Only for verbs that take one to four
+/// words.
 #[tactic(auto, unfolding(crate::specs::Lines::event_of))]
 pub(crate) fn event_from<'a>(verb: &str, args: &[&'a str]) -> Option<Request<'a>>
     ensures { option_map request_seen result ≡ says.event_of verb.now (map (λ w. w.now) args.now) }

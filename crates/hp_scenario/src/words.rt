@@ -56,7 +56,8 @@ fn are_name_bytes(bytes: &[u8]) -> bool
     bytes.iter().all(|byte| is_name_byte(*byte))
 }
 
-/// Returns whether a word is a name: a letter from `a` to `z`, then at most 31 more name bytes.
+/// Returns whether a word is a name: a letter from `a` to `z`, then at most 31 of these letters,
+/// digits and `_`.
 pub fn is_name(word: &str) -> bool
     ensures { result ≡ names word.now }
 {

@@ -24,7 +24,8 @@ leaves_steps (Undoes serial) = false
 leaves_steps (Cancels op) = true
 leaves_steps Acts = true
 
--- the line neither undoes steps by their serials nor works on an operation by the number of its Begin
+-- the line neither undoes steps by their serials, nor works on the operation of its processor's
+-- n-th Begin. It may name an operation by a number that is in the script
 abbrev pub is_mergeable_line : Step → Bool
 is_mergeable_line (Ask event) = leaves_steps (effect_of event)
 is_mergeable_line (Own (Latest work)) = true
@@ -36,7 +37,8 @@ is_mergeable_line (Carry plan turns) = true
 abbrev pub is_mergeable : List Step → Bool
 is_mergeable lines = list_all is_mergeable_line lines
 
--- all lines of all scripts are mergeable: schedules that lead to the same place may be merged
+-- all lines of all scripts are mergeable. Then a search may treat two places that continue alike as
+-- one
 abbrev pub AreMergeable : List (List Step) → Type 0
 AreMergeable scripts = list_all is_mergeable scripts ≡ true
 
@@ -48,22 +50,25 @@ unnumbered r = record { serial = 0; event = r.event; reply = r.reply }
 abbrev pub exchanges : (cpu : ℕ) → List Record → List Receipt
 exchanges cpu news = map unnumbered (receipts_of cpu news)
 
--- no later Cancel can drop any of these steps: whether an operation is sole depends only on later steps
+-- no later Cancel can drop any of these steps. Whether an operation is sole (only its own drains
+-- and migrations follow its Begin) depends only on later steps
 abbrev pub IsClosed : List Record → Type 0
 IsClosed steps =
     (op : ℕ) (tail : List Record)
     → sole_at op (map tag_of (steps ++ tail))
     ≡ option_map (λ place. length steps + place) (sole_at op (map tag_of tail))
 
--- two nets lead to the same state, and Cancels lead back from both to the same states
+-- two nets (lists of steps not undone) lead to the same state. After both, Cancels can undo the
+-- same operations, and lead back to the same states
 pub record AreJoined (l : LayoutParts) (base : Memory) (first second : List Record) : Type 0 where
   pub openings : List Opening
   pub first_open : AreOpen l base first openings
   pub second_open : AreOpen l base second openings
   pub state : run l base first ≡ run l base second
 
--- h and k have equally many records, their nets join, and each processor made the same requests, got
--- the same replies and began its last operation with the same number
+-- h and k have equally many records, and their nets (lists of steps not undone) lead to the same
+-- state (AreJoined). Each processor made the same requests and got the same replies, and the last
+-- operation that it began has the same number
 pub record AreAlike (g : Setting) (h k : List Record) : Type 0 where
   pub calls : length h ≡ length k
   pub exchanged : (cpu : ℕ) → cpu < length g.scripts → exchanges cpu h ≡ exchanges cpu k

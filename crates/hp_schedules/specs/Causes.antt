@@ -23,26 +23,27 @@ abbrev pub cause_in_line : Step → List Receipt → Option Refusal
 cause_in_line (Carry plan turns) own = cause_of own
 cause_in_line line own = None
 
--- the last such refusal in the first unfinished line; the receipts are a processor's since the first of
--- these lines began
+-- the last refusal of a migration or a commit in the first unfinished line. `receipts` are those of
+-- the processor since the first of the lines began
 abbrev pub cause_in : (cpus : ℕ) → List Step → List Receipt → Option Refusal
 cause_in cpus [] receipts = None
 cause_in cpus (line ∷ lines) receipts =
     option_map_or (λ rest. cause_in cpus lines rest) (after_line cpus nothing_known line [] receipts)
     (cause_in_line line receipts)
 
--- the last refusal that a processor's plan in progress met after the new records; None without a plan
--- in progress
+-- the last refusal of a migration or a commit in the plan that the processor is carrying out after
+-- the new records; None if there is no such plan or refusal
 unfoldable pub cause_at : Setting → (cpu : ℕ) → List Record → Option Refusal
 cause_at g cpu news =
     option_map_or (λ lines. cause_in g.layout.cpus lines (receipts_of cpu news)) (slice_get g.scripts cpu)
     None
 
--- the cause that a cursor at this line stores; None if the line is one call or its plan has ended
+-- the last refusal that the cursor's driver has stored; None if the line is one call or its plan
+-- has ended
 abbrev pub met_at : Cursor → Step → Option Refusal
 met_at c line = cond (is_one_call line) None (cond (is_over c.driver.stage) None c.driver.why)
 
--- a refusal by two numbers: its kind, and the block or frame that it names
+-- a refusal by two numbers: its kind, and the block or frame that it names, or 0
 abbrev pub refusal_numbers : Refusal → List ℕ
 refusal_numbers NoOwner = 1 ∷ 0 ∷ []
 refusal_numbers NoPage = 2 ∷ 0 ∷ []
@@ -68,16 +69,17 @@ refusal_numbers (Unmovable frame) = 21 ∷ frame ∷ []
 refusal_numbers (NotFree frame) = 22 ∷ frame ∷ []
 refusal_numbers (NotAbsent block) = 23 ∷ block ∷ []
 
--- a refusal, or none, by two numbers
+-- a refusal by two numbers, or 0 and 0 for none
 abbrev pub cause_numbers : Option Refusal → List ℕ
 cause_numbers None = 0 ∷ 0 ∷ []
 cause_numbers (Some refusal) = refusal_numbers refusal
 
--- these two numbers give a processor's cause after the new records
+-- these two numbers give the last refusal in a processor's plan in progress after the new records
 abbrev pub IsCaused : Setting → (cpu : ℕ) → List Record → List ℕ → Type 0
 IsCaused g cpu news numbers = numbers ≡ cause_numbers (cause_at g cpu news)
 
--- the records `more` after h and `others` after k give a processor's lines the same further answers
+-- after h and k equally many of a processor's lines are finished. The records `more` after h and
+-- `others` after k give further lines the same answers
 pub record AnswerAlike (g : Setting) (cpu : ℕ) (h k more others : List Record) : Type 0 where
   pub many : length (answers_at g cpu h) ≡ length (answers_at g cpu k)
   pub later : List (Option LineAnswer)

@@ -16,8 +16,8 @@ use Rattle.hp_schedules.specs.Schedules.{Setting, next_call, plays}
 use Rattle.hp_schedules.specs.Scripts.{next_of}
 use Rattle.hp_schedules.specs.declared.scripts.Step.{Step}
 
--- two nets lead to the same state, and Cancels lead back from both to the same states, once `p`
--- renumbers the first net's operations and `q` the second net's
+-- `p` renumbers the operations of the first net (list of steps not undone), and `q` those of the
+-- second. Then both nets lead to the same state, and Cancels lead back from both to the same states
 pub record AreJoinedBy (p q : ℕ → ℕ) (l : LayoutParts) (base : Memory) (first second : List Record)
     : Type 0 where
   pub first_openings : List Opening
@@ -27,8 +27,8 @@ pub record AreJoinedBy (p q : ℕ → ℕ) (l : LayoutParts) (base : Memory) (fi
   pub openings : map (renumbered_opening p) first_openings ≡ map (renumbered_opening q) second_openings
   pub state : renumbered p (run l base first) ≡ renumbered q (run l base second)
 
--- two receipts are equal once `p` renumbers the operations in the first and `q` renumbers them in the
--- second
+-- two receipts have the same reply, and are equal once `p` renumbers the operations in the first
+-- and `q` renumbers them in the second
 pub record IsSameReceipt (p q : ℕ → ℕ) (r s : Receipt) : Type 0 where
   pub number : p r.serial ≡ q s.serial
   pub event : renumbered_event p r.event ≡ renumbered_event q s.event
@@ -48,15 +48,16 @@ AreSameReceipts p q (r ∷ receipts) (s ∷ others) = IsSameReceipt p q r s × A
 pub record AreSameBy (p q : ℕ → ℕ) (g : Setting) (h k : List Record) : Type 0 where
   pub calls : length h ≡ length k
   pub later : (n : ℕ) → g.before + length (g.start ++ h) < n → p n ≡ q n
-  -- after any further receipts that are the same, each processor makes the same call
+  -- after further receipts that are the same (AreSameReceipts), each processor's next call is the
+  -- same, once `p` and `q` renumber the operations
   pub ahead : (cpu : ℕ) (lines : List Step) → slice_get g.scripts cpu ≡ Some lines
       → (xs ys : List Receipt) → AreSameReceipts p q xs ys
       → option_map (renumbered_event p) (next_of g.layout.cpus lines (receipts_of cpu h ++ xs))
       ≡ option_map (renumbered_event q) (next_of g.layout.cpus lines (receipts_of cpu k ++ ys))
   pub nets : AreJoinedBy p q g.layout g.base (net_of (g.start ++ h)) (net_of (g.start ++ k))
 
--- the scripts go on alike after h and k for some renumberings of the operations; their replies may
--- differ
+-- the scripts go on alike after h and k, once one-to-one functions renumber the operations. The
+-- replies in h and k may differ
 pub record ContinueAlike (g : Setting) (h k : List Record) : Type 0 where
   pub first_numbers : ℕ → ℕ
   pub second_numbers : ℕ → ℕ
@@ -73,9 +74,10 @@ abbrev pub anonymous_record : Record → Record
 anonymous_record r =
     record { serial = r.serial; cpu = r.cpu; event = anonymous r.event; reply = r.reply }
 
--- h goes on to `end`, and k goes on by the calls of `rest` in the same way: with the same serials and
--- replies, though operations may have different numbers. Both ends go on alike: each processor calls
--- the same, and the blocks have the same rows
+-- h goes on to `end` by the records `more`. From k, the calls of `rest` have the same serials,
+-- events and replies, except that events may name operations by other numbers. After both, the
+-- scripts go on alike. Each processor's next call is the same but for its operation's number, and
+-- each memory block has the same state and zone
 pub record ContinuesAs (g : Setting) (q rest : List ℕ) (h k end : List Record) : Type 0 where
   pub more : List Record
   pub others : List Record

@@ -19,32 +19,35 @@ use Rattle.hp_schedules.specs.declared.scripts.OwnWork.TheVariants.{Latest, Nth,
 use Rattle.hp_schedules.specs.declared.scripts.Step.{Step}
 use Rattle.hp_schedules.specs.declared.scripts.Step.TheVariants.{Ask, Own, Carry}
 
--- the event that a line calls next after its processor's receipts; None if there is no such event
+-- the next event of the line that the cursor is at; None if the line's plan has ended. `receipts`
+-- are all those of the processor
 abbrev pub asks : List Receipt → Cursor → Step → Option Event
 asks receipts c (Ask event) = Some event
 asks receipts c (Own work) = Some (work_of (known_with c.op receipts) work)
 asks receipts c (Carry plan turns) = event_in plan c.driver.stage
 
--- the event that the cursor's own line calls next
+-- the next event of the cursor's own line; None if the line's plan has ended or there is no line
 abbrev pub asks_at : List Receipt → Cursor → List Step → Option Event
 asks_at receipts c lines = option_and_then (asks receipts c) (slice_get lines c.line)
 
--- `own` are the line's receipts so far, and the driver has its plan's state after them
+-- `own` are the receipts of the cursor's line so far: none if the line is one call. For a plan, `d`
+-- is the state of its driver after them
 abbrev pub IsIn : (cpus : ℕ) → Step → List Receipt → Driver → Type 0
 IsIn cpus (Ask event) own d = own ≡ []
 IsIn cpus (Own work) own d = own ≡ []
 IsIn cpus (Carry plan turns) own d = IsAfter cpus turns own d
 
--- `own` are the receipts of the first line, which was not finished before the last of them
+-- `own` are the receipts of the first line so far, if there is a line; the line was not finished
+-- before the last of them
 abbrev pub IsInFirst : (cpus : ℕ) → List Step → List Receipt → Driver → Type 0
 IsInFirst cpus [] own d = Unit {0}
 IsInFirst cpus (line ∷ lines) own d =
     IsIn cpus line own d × ((known : Known) (later : List Receipt)
     → after_line cpus known line [] (own ++ later) ≡ after_line cpus known line own later)
 
--- the cursor gives the script's position after its processor's receipts: the lines before it are
--- finished, and the lines from there on make the same calls as the whole script after these and any
--- later receipts
+-- the cursor is where `receipts` lead in the script. The lines before `c.line` are finished, and
+-- `own` are the receipts after theirs. After any `later` receipts, the other lines make the same
+-- calls as the whole script
 pub record IsCursor (cpus : ℕ) (lines : List Step) (receipts : List Receipt) (c : Cursor) : Type 0 where
   pub own : List Receipt
   pub begun : c.op ≡ own_operation receipts
@@ -73,7 +76,7 @@ cursor_at cpus lines line op = record {
   driver = option_map_or (first_driver cpus) (slice_get lines line) (driver_before cpus 0);
 }
 
--- the next call of the cursor's own line, or None if it calls nothing more
+-- the next call of the cursor's own line, or None if this line calls nothing more
 abbrev pub IsAsked : List Receipt → Cursor → List Step → Option NextCall → Type 0
 IsAsked receipts c lines None = asks_at receipts c lines ≡ None
 IsAsked receipts c lines (Some q) = (asks_at receipts c lines ≡ Some q.event) × (q.from ≡ c)
@@ -103,8 +106,8 @@ carried c =
     cond (is_over c.driver.stage)
     (Some (record { line = c.line; answer = option_map Carried (end_in c.driver.stage) })) None
 
--- a cursor stays at a plan's line when the plan has ended. So if it is at the beginning of a line, the
--- line before that is one call
+-- a cursor stays at a plan's line when the plan has ended. So if the cursor is at the beginning of
+-- a line, the line before it is one call
 abbrev pub IsSettled : List Step → Cursor → Type 0
 IsSettled lines c =
     is_carrying c lines ≡ false → (k : ℕ) (line : Step) → c.line ≡ k + 1 → slice_get lines k ≡ Some line
@@ -121,14 +124,14 @@ pub record AreCursors (g : Setting) (news : List Record) (cursors : List Cursor)
   pub settled : (cpu : ℕ) (lines : List Step) (c : Cursor)
       → slice_get g.scripts cpu ≡ Some lines → slice_get cursors cpu ≡ Some c → IsSettled lines c
 
--- the numbers that decide a script's further calls, beside the replies to them: the cursor's line, the
--- operation begun last, and the driver's key. `f` renumbers the operations
+-- a cursor as numbers: its line, the operation begun last, and its driver's turns left, stage and
+-- operation. `f` renumbers the operations
 abbrev pub steering_of : (f : ℕ → ℕ) → Cursor → List ℕ
 steering_of f c =
     c.line ∷ f c.op ∷ (key_of c.driver).left ∷ (key_of c.driver).stage ∷ f (key_of c.driver).op ∷ []
 
--- two numbers for a line that frees the frame of an earlier call: the number of such calls that the
--- processor has made, and the frame, if that call is among them
+-- two numbers for a line that frees the frame of an earlier KernelAlloc: how many KernelAllocs the
+-- processor has made, and that frame, or `no_frame`. No numbers for other lines
 abbrev pub frames_named : (frames : List ℕ) → Step → List ℕ
 frames_named frames (Ask event) = []
 frames_named frames (Own (Latest work)) = []
@@ -136,12 +139,13 @@ frames_named frames (Own (Nth nth work)) = []
 frames_named frames (Own (Free nth)) = length frames ∷ get_or frames nth no_frame ∷ []
 frames_named frames (Carry plan turns) = []
 
--- the two numbers of each line from the cursor on that frees the frame of an earlier call
+-- the two numbers of each line from the cursor on that frees the frame of an earlier KernelAlloc
 abbrev pub frames_ahead : Cursor → List Step → List Receipt → List ℕ
 frames_ahead c lines receipts = flat_map (frames_named (frames_of receipts)) (drop c.line lines)
 
--- the numbers that decide a processor's further calls after the new records; `f` renumbers the
--- operations
+-- the numbers of a processor's position after the new records; `f` renumbers the operations. With
+-- the replies to them, they decide its further calls, if no line works on the operation of its n-th
+-- Begin
 abbrev pub IsSteered : (f : ℕ → ℕ) → Setting → (cpu : ℕ) → List Record → List ℕ → Type 0
 IsSteered f g cpu news numbers =
     (lines : List Step) → slice_get g.scripts cpu ≡ Some lines

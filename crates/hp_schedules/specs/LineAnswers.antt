@@ -19,12 +19,13 @@ abbrev pub answer_of : Step → List Receipt → Option LineAnswer
 answer_of (Carry plan turns) own = option_map Carried (end_of own)
 answer_of line own = option_map (λ r. Replied r.reply) (slice_get own 0)
 
--- the receipts before `rest`, which is their end
+-- the receipts without the last ones, `rest`
 abbrev pub without : (receipts rest : List Receipt) → List Receipt
 without receipts rest = take (length receipts - length rest) receipts
 
--- the answers to the finished lines, in order; the receipts are a processor's since the first of these
--- lines began. Whether a line is finished does not depend on the numbers of its operations and frames
+-- the answers to the finished lines, in order. `receipts` are those of the processor since the
+-- first of the lines began. Whether a line is finished does not depend on which operation or frame
+-- it works on
 abbrev pub answers_in : (cpus : ℕ) → List Step → List Receipt → List (Option LineAnswer)
 answers_in cpus [] receipts = []
 answers_in cpus (line ∷ lines) receipts =

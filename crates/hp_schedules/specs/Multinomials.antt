@@ -23,13 +23,14 @@ sum ns = sum_by (λ n. n) ns
 abbrev pub IsMultinomial : List ℕ → ℕ → Type 0
 IsMultinomial ns m = m * factorials ns ≡ factorial (sum ns)
 
--- `m` is the multinomial coefficient of some numbers and one more, `length`, if the coefficient of the
--- numbers is `count` and their sum is `total`
+-- if some numbers have the sum `total` and the multinomial coefficient `count`, then `m` is the
+-- coefficient of these numbers and one more, `length`
 abbrev pub IsMultinomialWith : (count total length m : ℕ) → Type 0
 IsMultinomialWith count total length m =
     (ns : List ℕ) → sum ns ≡ total → IsMultinomial ns count → IsMultinomial (ns ++ length ∷ []) m
 
--- the multinomial coefficient with `length` is above the limit
+-- if some numbers have the sum `total` and the multinomial coefficient `count`, then the
+-- coefficient of these numbers and one more, `length`, is above the limit
 abbrev pub ExceedsWith : (count total length limit : ℕ) → Type 0
 ExceedsWith count total length limit =
     (ns : List ℕ) (m : ℕ) → sum ns ≡ total → IsMultinomial ns count → IsMultinomial (ns ++ length ∷ []) m

@@ -6,7 +6,8 @@ use Rattle.hp_schedules.specs.Outcomes.{OutcomeValue}
 use Rattle.hp_schedules.specs.declared.trail.Share.{Share}
 use Rattle.hp_schedules.specs.declared.tally.Ending.{Ending}
 
--- the limit on the schedules counted, the ends so far, and the trail of the shares added to them
+-- the limit on the schedules counted, the ends so far, and the trail: the shares that were added to
+-- the ends
 pub record TallyValue : Type 0 where
   pub limit : ℕ
   pub ends : List Ending

@@ -16,20 +16,24 @@ pub record OpeningWith (S : Type 0) : Type 0 where
   pub op : ℕ
   pub memory : S
 
--- an opening with the state itself
+-- an operation, with the state before its Begin
 abbrev pub Opening : Type 0
 Opening = OpeningWith Memory
 
--- an opening with other numbers for its operation and for the operations in its state
+-- an operation and the state before its Begin, with other numbers for it and for the operations in
+-- that state
 abbrev pub renumbered_opening : (ℕ → ℕ) → Opening → Opening
 renumbered_opening f o = record { op = f o.op; memory = renumbered f o.memory }
 
--- an opening with the number of the state's code
+-- an operation, with the number of a code (an encoding as a list of numbers) of the state before
+-- its Begin
 abbrev pub NumberedOpening : Type 0
 NumberedOpening = OpeningWith ℕ
 
--- the operations that a Cancel can undo completely, latest first. Only the first is sole. Its Cancel
--- leads back to the state before its Begin, where the rest of the list has this property again
+-- the operations that a Cancel can undo completely, latest first; `net` are the steps not undone.
+-- Only the first is sole: nothing but its own drains and migrations follows its Begin. Its Cancel
+-- leads back to the state before its Begin. There the rest of the list are the operations that a
+-- Cancel can undo
 abbrev pub AreOpen : LayoutParts → Memory → (net : List Record) → List Opening → Type 0
 AreOpen l base net [] = (op : ℕ) → sole_at op (map tag_of net) ≡ None
 AreOpen l base net (o ∷ os) =
@@ -37,18 +41,21 @@ AreOpen l base net (o ∷ os) =
     × ((op : ℕ) → sole_at op (map tag_of net) ≡ (if o.op == op then Some place else None))
     × (o.memory ≡ run l base (take place net)) × AreOpen l base (take place net) os
 
--- the operations left after work of the operation `op`; none if another operation is first
+-- the list of operations that a Cancel can undo, after a drain or migration for the operation `op`;
+-- empty if another operation is first
 abbrev pub after_work : {S : Type 0} → (op : ℕ) → List (OpeningWith S) → List (OpeningWith S)
 after_work op [] = []
 after_work op (o ∷ os) = if o.op == op then o ∷ os else []
 
--- the operations left after the Cancel of the operation `op`; none if another operation is first
+-- the list of operations that a Cancel can undo, after the Cancel of the operation `op`; empty if
+-- another operation is first
 abbrev pub after_cancel : {S : Type 0} → (op : ℕ) → List (OpeningWith S) → List (OpeningWith S)
 after_cancel op [] = []
 after_cancel op (o ∷ os) = if o.op == op then os else []
 
--- the change that a granted event makes to the list: a Read makes none; a step other than a Begin, a
--- Cancel, a DrainFor or a Migrate empties it
+-- the change that an event that is not refused makes to the list of operations that a Cancel can
+-- undo. A Read makes none. Any event but a Read, a Begin, a DrainFor, a Migrate or a Cancel is
+-- taken to empty the list, which need not be so for an UndoAfter
 abbrev pub change_by : Event → Change
 change_by (Read owner page index) = Stays
 change_by (Begin plan) = Begins
@@ -57,7 +64,8 @@ change_by (Migrate op) = Works op
 change_by (Cancel op) = Cancels op
 change_by event = Ends
 
--- the change that a record makes to the list: a refusal makes none
+-- the change that a record makes to the list of operations that a Cancel can undo: a refusal makes
+-- none
 abbrev pub change_of : Record → Change
 change_of r = if is_refused r.reply then Stays else change_by r.event
 

@@ -8,7 +8,8 @@ use Rattle.hp_units.specs.declared.replies.Reply.{Reply}
 use Rattle.hp_units.specs.declared.replies.Reply.TheVariants.{Opened}
 use Rattle.hp_units.specs.declared.rows.Row.{Row}
 
--- each processor's replies, from processor 0 on, and each block's row, from block 0 on
+-- each processor's replies, from processor 0 on, and each memory block's row (its state and zone),
+-- from block 0 on
 pub record OutcomeValue : Type 0 where
   pub replies : List (List Reply)
   pub blocks : List Row

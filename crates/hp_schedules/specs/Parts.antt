@@ -34,7 +34,7 @@ ComesTo processors part s = (length s < part.calls) ⊎ IsOfPart processors part
 
 -- ---- the places of a part's search
 
--- the place belongs to the part, if more calls lead to it than decide the part
+-- if more calls lead to the place than decide the part, the place belongs to the part
 abbrev pub IsOn : (processors : ℕ) → PartValue → List ℕ → Type 0
 IsOn processors part place = part.calls < length place → IsOfPart processors part place
 

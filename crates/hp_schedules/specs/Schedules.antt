@@ -11,7 +11,7 @@ use Rattle.hp_schedules.specs.Outcomes.{OutcomeValue, outcome}
 use Rattle.hp_schedules.specs.Scripts.{next_of}
 
 -- the scripts, from processor 0 on, and where they begin: the layout, the base state with the number of
--- records before it, and the records since then
+-- records before it, and the records since then. The new records, `news`, are those after `start`
 pub record Setting : Type 0 where
   pub layout : LayoutParts
   pub base : Memory

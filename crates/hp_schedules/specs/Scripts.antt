@@ -1,4 +1,5 @@
--- The calls of a script, which follow from its processor's receipts.
+-- The calls of a script. Each follows from its processor's receipts so far: its calls' serials,
+-- events and replies.
 use Rattle.std.specs.Prelude.{ℕ, Bool, true, false, if◌then◌else◌, List, [], ◌∷◌, ◌++◌, Option, Some, None, filter, fold, get_or, map, nat_lt}
 use Rattle.std.specs.Option.{option_and_then, option_map_or}
 use Rattle.hp_units.specs.Driver.{next_event}
@@ -15,8 +16,8 @@ use Rattle.hp_schedules.specs.declared.scripts.Step.TheVariants.{Ask, Own, Carry
 use Rattle.hp_schedules.specs.declared.scripts.StepWork.{StepWork}
 use Rattle.hp_schedules.specs.declared.scripts.StepWork.TheVariants.{DrainFor, Migrate, Commit, Cancel}
 
--- the operation that a processor began last, after one more receipt: its serial if it is a Begin,
--- refused or not
+-- the operation that a processor began last, after one more receipt `r`: the serial of `r` if its
+-- event is a Begin, refused or not; otherwise still `op`
 abbrev pub later_operation : ℕ → Receipt → ℕ
 later_operation op r = if is_opening (mark_of r.event) then r.serial else op
 
@@ -29,31 +30,33 @@ own_operation receipts = fold later_operation 0 receipts
 abbrev pub operations_of : List Receipt → List ℕ
 operations_of receipts = map (λ r. r.serial) (filter (λ r. is_opening (mark_of r.event)) receipts)
 
--- the event takes a frame for the kernel
+-- the event is a KernelAlloc
 abbrev pub takes_frame : Event → Bool
 takes_frame (KernelAlloc order) = true
 takes_frame event = false
 
--- a frame that no layout has: the result of a refused request for a frame
+-- a frame that no layout has; the result of a refused KernelAlloc
 abbrev pub no_frame : ℕ
 no_frame = 4294967295
 
--- the frame in a reply, or the frame that no layout has
+-- the frame in a reply, or `no_frame` if the reply has none
 abbrev pub frame_in : Reply → ℕ
 frame_in (Frame frame) = frame
 frame_in reply = no_frame
 
--- the frames that a processor took for the kernel, in order, with `no_frame` for each refusal
+-- the results of a processor's KernelAllocs, in order: the first frame of the kernel's block, or
+-- `no_frame` if refused
 abbrev pub frames_of : List Receipt → List ℕ
 frames_of receipts = map (λ r. frame_in r.reply) (filter (λ r. takes_frame r.event) receipts)
 
--- the operations and frames from a processor's calls that its lines may work on
+-- the results of a processor's calls that its lines may work on: the operation begun last, all
+-- operations begun, and the frames of its KernelAllocs
 pub record Known : Type 0 where
   pub op : ℕ
   pub begun : List ℕ
   pub frames : List ℕ
 
--- the operations and frames that the receipts give, with `op` as the operation begun last
+-- the operations and frames that the receipts give, but with `op` as the operation begun last
 abbrev pub known_with : (op : ℕ) → List Receipt → Known
 known_with op receipts =
     record { op = op; begun = operations_of receipts; frames = frames_of receipts }
@@ -73,14 +76,14 @@ step_work_of op Migrate = Migrates op
 step_work_of op Commit = Commits op
 step_work_of op Cancel = Cancels op
 
--- the event of a line's work on an earlier result. If no result has the line's number, the operation is
--- 0 and the frame is one that no layout has
+-- the event of a line's work on an earlier result. If there is no such result, the operation is 0
+-- and the frame is `no_frame`
 abbrev pub work_of : Known → OwnWork → Event
 work_of known (Latest work) = step_work_of known.op work
 work_of known (Nth nth work) = step_work_of (get_or known.begun nth 0) work
 work_of known (Free nth) = KernelFree (get_or known.frames nth no_frame)
 
--- an event that is called once
+-- the event of a line that makes one call; None once the line has a receipt
 abbrev pub once : Event → List Receipt → Option Event
 once event [] = Some event
 once event (r ∷ rs) = None
@@ -92,7 +95,8 @@ line_next cpus known (Ask event) receipts = once event receipts
 line_next cpus known (Own work) receipts = once (work_of known work) receipts
 line_next cpus known (Carry plan turns) receipts = next_event cpus turns plan receipts
 
--- the receipts that a line leaves once it is finished; None if it takes all of them and goes on
+-- what follows the receipts of a finished line: `earlier` are the line's receipts so far, and
+-- `later` come after them. None if the line takes all of `later` and is not finished
 abbrev pub after_line : (cpus : ℕ) → Known → Step → (earlier later : List Receipt) → Option (List Receipt)
 after_line cpus known line earlier [] =
     option_map_or (λ event. None) (line_next cpus known line earlier) (Some [])
@@ -100,21 +104,22 @@ after_line cpus known line earlier (r ∷ rs) =
     option_map_or (λ event. after_line cpus known line (earlier ++ r ∷ []) rs)
     (line_next cpus known line earlier) (Some (r ∷ rs))
 
--- the receipts that several lines, one after another, leave once they are finished; None if they are
--- not
+-- what follows the receipts of several lines, one after another, once all are finished; None if a
+-- line is not finished
 abbrev pub after_lines : (cpus : ℕ) → Known → List Step → List Receipt → Option (List Receipt)
 after_lines cpus known [] receipts = Some receipts
 after_lines cpus known (line ∷ lines) receipts =
     option_and_then (λ rest. after_lines cpus known lines rest) (after_line cpus known line [] receipts)
 
--- the next event of the lines; the receipts are a processor's since the first of these lines began
+-- the next event of the lines; None if all are finished. `receipts` are those of the processor
+-- since the first of the lines began
 abbrev pub next_in : (cpus : ℕ) → Known → List Step → List Receipt → Option Event
 next_in cpus known [] receipts = None
 next_in cpus known (line ∷ lines) receipts =
     option_map_or (λ rest. next_in cpus known lines rest) (after_line cpus known line [] receipts)
     (line_next cpus known line receipts)
 
--- the next event of a script after its processor's receipts
+-- the next event of a script after all receipts of its processor; None at the script's end
 abbrev pub next_of : (cpus : ℕ) → List Step → List Receipt → Option Event
 next_of cpus lines receipts = next_in cpus (known_of receipts) lines receipts
 

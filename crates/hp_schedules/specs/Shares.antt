@@ -30,7 +30,9 @@ pub record AddsCounts (old : List Ending) (counts : List ℕ) (new : List Ending
       → (f.outcome ≡ e.outcome) × (f.first.items ≡ e.first.items)
       × (f.count ≡ e.count + slice_index_or counts k 0)
 
--- the shares of each end add up to the growth of its count since `earlier`
+-- `earlier` are the counts of the ends at an earlier time, 0 for an end that was not there yet.
+-- Each end's count has grown since then by the amount of its shares, and each share belongs to an
+-- end
 pub record AreSince (earlier : List ℕ) (ends : List Ending) (shares : List Share) : Type 0 where
   pub at_ends : AreAtEnds (length ends) shares
   pub each : (k : ℕ) (e : Ending) → slice_get ends k ≡ Some e
@@ -46,10 +48,10 @@ pub record AddsAt (old : List Ending) (at count : ℕ) (new : List Ending) : Typ
   pub first : more.first.items ≡ entry.first.items
   pub new_is : new ≡ slice_set old at more
 
--- all these schedules may still be counted
+-- the limit allows as many more schedules as these counts add up to
 abbrev pub HasRoomFor : TallyValue → List ℕ → Type 0
 HasRoomFor t counts = sum_by (λ e. e.count) t.ends + sum counts ≤ t.limit
 
--- the schedules of all these shares may still be counted
+-- the limit allows as many more schedules as these shares add up to
 abbrev pub HasRoomForShares : TallyValue → List Share → Type 0
 HasRoomForShares t shares = sum_by (λ e. e.count) t.ends + sum_by (λ s. s.count) shares ≤ t.limit

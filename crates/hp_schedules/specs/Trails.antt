@@ -1,4 +1,5 @@
--- The trail of the shares added to the ends, and the counts that it gives.
+-- The trail, which lists the shares that were added to the ends. It shows how much the ends' counts
+-- have grown since an earlier time.
 use Rattle.std.specs.Prelude.{◌≡◌, ℕ, ◌+◌, ◌≤◌, List, Some, drop, length, slice_get, sum_by, take}
 use Rattle.hp_schedules.specs.Notes.{TallyValue}
 use Rattle.hp_schedules.specs.Shares.{AreAtEnds, AreSince}
@@ -44,7 +45,7 @@ pub record IsSummedUp (start end at : ℕ) (old : List Share) (later : ℕ) (new
 abbrev pub WereCounted : TallyValue → (start : ℕ) → (earlier : List ℕ) → Type 0
 WereCounted t start earlier = AreSince earlier t.ends (drop start t.trail)
 
--- the trail still gives all counts of the times when it had at most `start` shares
+-- the new trail still gives the counts of each time when the trail had at most `start` shares
 pub record KeepsBefore (start : ℕ) (old new : TallyValue) : Type 0 where
   pub longer : start ≤ length new.trail
   pub told : (s : ℕ) (earlier : List ℕ) → s ≤ start → length earlier ≤ length old.ends

@@ -11,15 +11,17 @@ pub enum Change {
     Stays,
     /// Begins an operation.
     Begins,
-    /// Is work of the operation `op` itself.
+    /// Is a drain or a migration for the operation `op`.
     Works { op: Serial },
     /// Cancels the operation `op`.
     Cancels { op: Serial },
-    /// Is any other step. After it, no Cancel takes an earlier step back.
+    /// Is any other event: the list becomes empty. Unless the event is an UndoAfter, no later
+    /// Cancel takes back a step before it.
     Ends,
 }
 
-/// Returns how the call of this record changes the list.
+/// Returns how the call of this record changes the list of operations that a Cancel can undo
+/// completely.
 pub fn change_of(latest: &Record) -> Change
     ensures { result ≡ change_of latest.now }
 {

@@ -17,7 +17,7 @@ pub fn is_closed(history: &[Record]) -> bool
     closed
 }
 
-/// Returns whether the history is still closed after one more record.
+/// Returns whether the history is closed after one more record, given whether it was closed before.
 fn closed_after(was: bool, last: &Record) -> bool
     ensures { result ≡ closed_after was last.now }
 {

@@ -35,7 +35,7 @@ pub struct Cursor {
 pub struct NextCall {
     /// The event to call.
     pub event: Event,
-    /// The position of the script at the line that makes this call.
+    /// The processor's position in its script, at the line that makes this call.
     pub from: Cursor,
 }
 
@@ -80,8 +80,8 @@ impl Cursor {
         Cursor::new(cpus, lines, self.line + 1, self.op).asked(alloc, lines, news, cpu)
     }
 
-    /// Returns the next call of the current line, or `None` if the line is
-    /// finished or there is none.
+    /// Returns the next call of the current line, or `None` if its plan has ended or there is no
+    /// such line.
     fn asked(
         &self,
         alloc: Global,
@@ -100,7 +100,7 @@ impl Cursor {
         }
     }
 
-    /// Returns the line's next event, or `None` if the line is finished.
+    /// Returns the next event of the current line, or `None` if its plan has ended.
     fn event(
         &self,
         alloc: Global,
@@ -117,8 +117,10 @@ impl Cursor {
         }
     }
 
-    /// Returns the numbers that the further calls depend on, beside the replies to them. `fixed`
-    /// and `latest` number the operations. Returns `None` if the number of one is 2^64 or greater.
+    /// Returns five numbers: the line, the operation begun last, and the driver's turns left, stage
+    /// and operation. Returns `None` if the number of an operation is 2^64 or greater.
+    ///
+    /// `fixed` and `latest` number the operations, as [`number_of`] does.
     pub(crate) fn steering(&self, fixed: Serial, latest: &[Serial]) -> Option<[u64; 5]>
         ensures { IfSome result (λ numbers. numbers ≡ steering_of (number_of fixed latest.now) self.now) }
     {
@@ -134,8 +136,8 @@ impl Cursor {
         ])
     }
 
-    /// Appends the numbers of `push_named` for each line from the cursor's on, and returns whether
-    /// each fits 32 bits.
+    /// Appends the numbers of `push_named` for each line from the cursor's on. Returns whether each
+    /// fits 32 bits; if one does not, the numbers from its line on are missing.
     pub(crate) fn push_frames(
         &self,
         lines: &[Step],
@@ -194,7 +196,8 @@ impl Cursor {
         }
     }
 
-    /// Returns which line the latest call finished, given its reply, or `None` if it finished none.
+    /// Returns the line that the latest call finished, or `None` if it finished none. The cursor is
+    /// the position after that call, and `reply` is its reply.
     pub(crate) fn answered(&self, lines: &[Step], reply: &Reply) -> Option<FinishedLine>
         ensures { (cpus : ℕ) (receipts : List Receipt) (r : Receipt) → r.reply ≡ reply.now
             → next_of cpus lines.now receipts ≡ Some r.event
@@ -214,7 +217,8 @@ impl Cursor {
         })
     }
 
-    /// Returns the last refusal that the plan in progress met, if any.
+    /// Returns the last refusal of a migration or a commit in the current line's plan. Returns
+    /// `None` if there is none, or if no plan is in progress.
     pub(crate) fn cause(&self, lines: &[Step]) -> Option<Refusal>
         ensures { (cpus : ℕ) (receipts : List Receipt) → IsCursor cpus lines.now receipts self.now
             → result ≡ cause_in cpus lines.now receipts }
@@ -225,7 +229,8 @@ impl Cursor {
         self.met_at(line)
     }
 
-    /// Returns the last refusal that the line's plan met, if the plan is in progress.
+    /// Returns the last refusal of a migration or a commit in the line's plan, if the plan is in
+    /// progress and met one.
     fn met_at(&self, line: &Step) -> Option<Refusal>
         ensures { result ≡ met_at self.now line.now }
     {
@@ -248,7 +253,7 @@ impl Cursor {
         }
     }
 
-    /// Returns whether the line is a plan that the driver is done with.
+    /// Returns whether the line is a plan that has ended.
     fn has_carried(&self, line: &Step) -> bool
         ensures { result ≡ has_carried self.now line.now }
     {
@@ -269,8 +274,9 @@ impl Cursor {
     }
 }
 
-/// If the line frees the frame of an earlier call, appends how many such calls the processor has
-/// made, and the frame. Returns whether each number fits 32 bits.
+/// If the line frees the frame of an earlier KernelAlloc, appends how many KernelAllocs the
+/// processor has made, and that frame. Returns whether each number fits 32 bits; if not, appends
+/// nothing.
 fn push_named(
     line: &Step,
     news: &[Record],

@@ -34,25 +34,25 @@ pub fn interleavings_are_counted()
         → (HasCount (IsComplete g) m ↔ IsCountOfLengths g.scripts m) }
 {}
 
-/// If no script undoes steps by their serials, or works on an operation by the number of its Begin,
-/// two schedules with alike records have the same continuations, with the same outcomes.
+/// If `are_mergeable` holds for the scripts, two schedules whose records are alike (`AreAlike`)
+/// have the same continuations, with the same outcomes.
 pub fn alike_places_go_on_alike()
     ensures { (g : Setting) (p q rest : List ℕ) (h k : List Record) (x : OutcomeValue)
         → AreMergeable g.scripts → plays g p ≡ Some h → plays g q ≡ Some k → AreAlike g h k
         → EndsWith g (p ++ rest) x → EndsWith g (q ++ rest) x }
 {}
 
-/// If no script undoes steps by their serials, or works on an operation by the number of its Begin,
-/// two beginnings that continue alike have the same continuations, call for call, with the same
-/// events, serials and replies.
+/// If `are_mergeable` holds for the scripts, two beginnings that continue alike have the same
+/// continuations, call for call. Serials and replies are the same, and so are events, except that
+/// they may name operations by different numbers.
 pub fn alike_beginnings_continue_alike()
     ensures { (g : Setting) (p q rest : List ℕ) (h k end : List Record) → AreMergeable g.scripts
         → plays g p ≡ Some h → plays g q ≡ Some k → ContinueAlike g h k → plays g (p ++ rest) ≡ Some end
         → ContinuesAs g q rest h k end }
 {}
 
-/// Whether a line is finished, and the receipts that are left then, do not depend on the result that
-/// it works on.
+/// Whether a line is finished, and which receipts follow it, does not depend on the earlier result
+/// that it works on.
 pub fn lines_finish_alike()
     ensures { (cpus : ℕ) (known : Known) (line : Step) (earlier later : List Receipt)
         → after_line cpus known line earlier later ≡ after_line cpus nothing_known line earlier later }

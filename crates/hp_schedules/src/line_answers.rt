@@ -68,7 +68,7 @@ fn same_end(end: &OpEnd, other: &OpEnd) -> bool
     }
 }
 
-/// Returns whether both are the same refusal, or none.
+/// Returns whether both have the same refusal, or neither has one.
 fn same_cause(why: &Option<Refusal>, other: &Option<Refusal>) -> bool
     ensures { IsTrue result ↔ (why.now ≡ other.now) }
 {
@@ -81,7 +81,7 @@ fn same_cause(why: &Option<Refusal>, other: &Option<Refusal>) -> bool
     }
 }
 
-/// Returns the answer to a line whose plan ended like this.
+/// Returns the answer to a line whose plan has this end, or `None` without an end.
 pub(crate) fn plan_answer(end: Option<OpEnd>) -> Option<LineAnswer>
     ensures { result ≡ option_map Carried end }
 {

@@ -19,8 +19,9 @@ pub enum HowMany {
     Unknown,
 }
 
-/// Returns how many interleavings the scripts have: the multinomial coefficient of their lengths
-/// (Knuth 1, 1.2.6), if each line is one call.
+/// Returns how many interleavings the scripts have, or that there are more than `limit`. If each
+/// line is one call, the number is the multinomial coefficient of the scripts' lengths (Knuth 1,
+/// 1.2.6). It is unknown if a line is a plan, or if there are 2^64 lines or more.
 pub fn interleavings_of(
     alloc: Global,
     scripts: &[CallScript],
@@ -115,8 +116,11 @@ fn coefficient(lengths: &[u64], limit: u64) -> Option<u64>
     Some(count)
 }
 
-/// Returns the coefficient with one more length, given the coefficient and the sum of those so far.
-/// Returns `None` if it is above the limit.
+/// Returns the multinomial coefficient of the lengths so far and one more, `length`. `count` is the
+/// coefficient of the lengths so far, and `total` their sum.
+///
+/// Returns `None` if the coefficient is above the limit. With a `length` of 0, returns `count`
+/// without comparing it to the limit.
 fn with_length(count: u64, total: u64, length: u64, limit: u64) -> Option<u64>
     requires { total + length < 2 ^ 64 }
     ensures some { IfSome result (IsMultinomialWith count total length) }

@@ -66,8 +66,8 @@ impl Outcome {
         Outcome { replies, blocks }
     }
 
-    /// Returns each processor's replies, from processor 0 on. The number of an opened operation is
-    /// always 0 there.
+    /// Returns each processor's replies, from processor 0 on. If this is the outcome of a schedule,
+    /// the number of an opened operation is always 0.
     pub fn replies(&self) -> &[Replies]
         ensures { result.now ≡ self.now.replies }
     {
@@ -75,8 +75,8 @@ impl Outcome {
         answers.as_slice()
     }
 
-    /// Returns each memory block's row, from block 0 on. A row never names the operation that holds
-    /// the block.
+    /// Returns each memory block's row, from block 0 on. If this is the outcome of a schedule, no
+    /// row names the operation that holds its block.
     pub fn blocks(&self) -> &[Row]
         ensures { result.now ≡ self.now.blocks }
     {
@@ -114,7 +114,7 @@ impl Outcome {
         Ok(Outcome { replies, blocks })
     }
 
-    /// Returns whether it is the outcome of these records and rows, for `processors` processors.
+    /// Returns whether this is the outcome of these records and rows, for `processors` processors.
     pub(crate) fn is_of(&self, processors: u32, records: &[Record], blocks: &[Row]) -> bool
         ensures { IsTrue result ↔ (self.now ≡ outcome_with processors records.now blocks.now) }
     {
@@ -169,7 +169,8 @@ pub(crate) fn told(reply: &Reply) -> Reply
     }
 }
 
-/// Returns whether `answers` are the replies to each of `processors` processors.
+/// Returns whether `answers` are the replies to each of `processors` processors among the records,
+/// with 0 for the number of an opened operation.
 fn are_answers_below(answers: &[Replies], processors: u32, records: &[Record]) -> bool
     ensures { IsTrue result ↔ (answers.now ≡ replies_below processors records.now) }
 {

@@ -86,11 +86,11 @@ impl Shard {
         number_of(first, processors, self.of) == u64::from(self.index)
     }
 
-    /// Returns whether the place just reached by a call belongs to another part. The records must
-    /// be at least `calls` long.
+    /// Returns whether the place of these records belongs to another part. There must be at least
+    /// `calls` records.
     ///
-    /// Places with more calls than that need no test, since the walk never continues from another
-    /// part's place.
+    /// Does not test a place with more than `calls` records: it belongs to this part, because a
+    /// search never continues from a place of another part.
     pub fn leaves_out(&self, processors: u32, records: &[Record]) -> bool
         requires long { self.now.calls ≤ length records.now }
         requires on { IsOn processors self.now (schedule_of records.now) }
@@ -116,7 +116,7 @@ fn number_of(first: &[Record], processors: u32, of: u32) -> u64
     number
 }
 
-/// Appends a digit to the number, modulo the number of parts.
+/// Returns the number with one more digit, modulo the number of parts.
 fn with_digit(number: u64, base: u32, digit: u32, of: u32) -> u64
     requires some { 0 < of }
     requires below { number < of }

@@ -92,10 +92,13 @@ impl Positions {
         self.cursors[place].answered(scripts[place].lines(), &latest.reply)
     }
 
-    /// Appends the numbers that the processor's further calls depend on, beside the replies to them,
-    /// and returns whether each fits 32 bits. If not, `numbers` holds a part of them.
+    /// Appends the numbers of the processor's position, and returns whether each fits 32 bits. If
+    /// not, only some of them are appended.
     ///
-    /// They are five, and two more for each further line that frees the frame of an earlier call.
+    /// These are five numbers, and two more for each line from its position on that frees the frame
+    /// of an earlier KernelAlloc. With the replies to them, they decide the processor's further
+    /// calls, if no line of its script works on the operation of its n-th Begin.
+    ///
     /// `fixed` and `latest` number the operations, as [`number_of`](hp_renumbering::number_of) does.
     pub fn push_steering(
         &self,
@@ -127,9 +130,11 @@ impl Positions {
         cursor.push_frames(scripts[place].lines(), news, Cpu(cpu), numbers)
     }
 
-    /// Appends the last refusal that the processor's plan in progress met, as two numbers; both are
-    /// 0 if there is none. Beside the numbers of `push_steering` and the replies to further calls,
-    /// the answer of that plan depends on nothing else.
+    /// Appends the last refusal of a migration or a commit in the processor's plan in progress, as
+    /// two numbers; both are 0 if there is none.
+    ///
+    /// The answer to that plan's line depends only on these two numbers, on the numbers of
+    /// `push_steering`, and on the replies to further calls.
     pub fn push_causes(
         &self,
         scripts: &[CallScript],
@@ -173,7 +178,7 @@ impl Positions {
         former
     }
 
-    /// Puts the processor back to its position before its latest call.
+    /// Puts the processor back to the position `former`, which `go_on` returned.
     pub fn go_back(&mut self, cpu: Cpu, former: Cursor)
         requires { cpu < length self.old.cursors.items }
         ensures { self.new.cursors.items ≡ slice_set self.old.cursors.items cpu former }

@@ -119,8 +119,8 @@ impl Step {
         }
     }
 
-    /// Returns whether the line neither undoes steps by their serials (`UndoAfter`) nor works on an
-    /// operation by the number of its Begin (`Nth`).
+    /// Returns whether the line neither undoes steps by their serials (`UndoAfter`), nor works on
+    /// the operation of its processor's n-th Begin (`Nth`).
     ///
     /// An event of `Ask` may still name any operation: that number is in the script.
     fn is_mergeable(&self) -> bool
@@ -184,8 +184,8 @@ impl CallScript {
         true
     }
 
-    /// Returns whether no line undoes steps by their serials, or works on an operation by the
-    /// number of its Begin.
+    /// Returns whether no line undoes steps by their serials (`UndoAfter`), or works on the
+    /// operation of its processor's n-th Begin (`Nth`).
     fn is_mergeable(&self) -> bool
         ensures { result ≡ is_mergeable self.now }
     {
@@ -198,7 +198,8 @@ impl CallScript {
     }
 }
 
-/// Returns the operation that the processor began last, after one more call with this serial.
+/// Returns the operation that the processor began last, after one more call: `serial` if `event` is
+/// a Begin, refused or not; otherwise still `op`.
 pub(crate) fn later_operation(op: Serial, serial: Serial, event: &Event) -> Serial
     ensures { result ≡ cond (is_opening (mark_of event.now)) serial op }
 {
@@ -222,11 +223,11 @@ pub fn greatest_named(scripts: &[CallScript]) -> Serial
     greatest
 }
 
-/// Returns whether no script undoes steps by their serials, or works on an operation by the number
-/// of its Begin.
+/// Returns whether no line of any script undoes steps by their serials (`UndoAfter`), or works on
+/// the operation of its processor's n-th Begin (`Nth`).
 ///
-/// A walk may treat two places that continue alike as one only if this holds: serials differ between
-/// the schedules that lead there.
+/// A search may treat two places that continue alike as one only if this holds, because serials
+/// differ between the schedules that lead there.
 pub fn are_mergeable(scripts: &[CallScript]) -> bool
     ensures { result ≡ list_all is_mergeable scripts.now }
 {

@@ -50,8 +50,9 @@ pub fn schedule_of(alloc: Global, records: &[Record]) -> Result<Vec<Cpu>, AllocE
 
 /// The ends so far, the limit on the schedules counted, and the trail of what was counted.
 ///
-/// `latest` maps a hash to the index of the newest end that has it. The trail records what was
-/// added to each count. So it shows how much a count has grown since the trail had a given length.
+/// `latest` maps a hash to the index of the newest end that has it, unless memory ran out when a
+/// later end was added. The trail records what was added to each count. So it shows how much a
+/// count has grown since the trail had a given length.
 #[derive(Drop)]
 pub struct Tally {
     limit: u64,
@@ -123,7 +124,7 @@ impl Tally {
         }
     }
 
-    /// Returns the index of the end that has this outcome.
+    /// Returns the index of the end that has this outcome, if there is one.
     ///
     /// It is nearly always the newest end with this hash. If not, all ends are compared.
     fn place_of(
@@ -210,7 +211,7 @@ impl Tally {
         self.trail.since(start)
     }
 
-    /// Adds up, end by end, the shares that were counted since the trail was `start` long.
+    /// Replaces the shares of the trail from index `start` on by their sums, one for each end.
     pub fn gather(&mut self, start: usize)
         requires { start ≤ length self.old.trail }
         ensures trail { KeepsBefore start self.old self.new }
@@ -313,7 +314,7 @@ fn is_end_at(
     }
 }
 
-/// Returns the index of the first end that has this outcome.
+/// Returns the index of the first end that has this outcome, if there is one.
 fn first_place_of(
     ends: &[Ending],
     processors: u32,

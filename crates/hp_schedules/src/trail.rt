@@ -1,4 +1,4 @@
-//! The trail of what was added to the ends.
+//! The trail: how many schedules were added to which end, in order.
 ghost use Rattle.std.specs.Prelude.{◌≡◌, ◌+◌, ◌++◌, ◌∷◌, [], ◌<◌, ◌≤◌, ◌^◌, IfSome, OnErr, OnOk, drop, length, sum_by};
 ghost use Rattle.hp_schedules.specs.Trails.{IsGathered, IsShareOf, IsSummedUp, left_over};
 
@@ -32,7 +32,7 @@ impl Trail {
         &self.shares[start..]
     }
 
-    /// Makes room for the hint of one more end.
+    /// Adds the entry of one more end to `places`.
     pub(crate) fn add_end(&mut self) -> Result<(), AllocError>
         ensures { self.new.shares.items ≡ self.old.shares.items }
     {
@@ -83,8 +83,8 @@ impl Trail {
         end + 1
     }
 
-    /// Returns the index of the sum of the end at index `end`, if the end's hint is the index of
-    /// that sum.
+    /// Returns the index of the sum of the end at index `end`, if the end's entry in `places` is
+    /// the index of that sum. The sums are at the indexes from `start` to before `many`.
     fn place_of(&self, end: usize, start: usize, many: usize) -> Option<usize>
         requires { many ≤ length self.now.shares.items }
         ensures from { IfSome result (λ place. start ≤ place) }

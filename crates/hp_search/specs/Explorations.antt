@@ -19,10 +19,10 @@ use Rattle.hp_search.specs.Holding.{HoldsIn}
 
 -- ---- scripts on a machine
 
--- None: the ends count all complete schedules, there are at most `limit` of these, and no schedule
--- fills the history. Otherwise the ends count the first schedules, there are more, and `known`
--- describes the number of all. Then either `limit` schedules are counted, or the watch has ended
--- the search
+-- with None, the ends count all complete schedules, there are at most `limit` of these, and no
+-- schedule fills the history. With `known`, the ends count only the first schedules, and `known`
+-- describes the number of all. Either `limit` schedules are counted, or the watch has ended the
+-- search
 abbrev pub AreExplored : Setting → (limit : ℕ) → (ended : Type 0) → List Ending → Option HowMany → Type 0
 AreExplored g limit ended ends None =
     AreEnds g ends × (HasMoreThan (IsComplete g) limit → ⊥) × (FillsHistory g → ⊥)
@@ -30,8 +30,8 @@ AreExplored g limit ended ends (Some known) =
     AreFirst g (counted ends) ends × HasMoreThan (IsComplete g) (counted ends)
     × ((counted ends ≡ limit) ⊎ ended) × IsKnown g.scripts (2 ^ 64 - 1) known
 
--- the text has either the ends of at most `limit` schedules, in the order of their first schedules, or
--- the groups of these ends
+-- the text has either the ends that at most `limit` schedules lead to, or the groups of these ends.
+-- The ends are in the order of their first schedules
 pub record IsExploredOn (form : EndsForm) (by : Option GroupBy) (names : List (List ℕ)) (before : List Line)
     (g : Setting) (limit : ℕ) (ended : Type 0) (text : List ℕ) (found : Bool) : Type 0 where
   pub ends : List Ending
@@ -51,7 +51,8 @@ abbrev pub IsExplorationOf : EndsForm → Option GroupBy → (input : List ℕ) 
 IsExplorationOf form by input setup limit ended text found =
     HoldsIn (λ names before g. IsExploredOn form by names before g limit ended text found) input setup
 
--- the cause of each fault. For `HistoryFull`, it is a call that the search makes within its limit
+-- the cause of each fault. For `HistoryFull`, the history has no room for a call of the search, and
+-- at most `limit` complete schedules come before that call
 abbrev pub IsFaultWithin : (input : List ℕ) → (setup limit : ℕ) → LabFault → Type 0
 IsFaultWithin input setup limit fault =
     IsFaultWith (λ g. IsCauseWithin g limit) input setup fault

@@ -11,8 +11,8 @@ use Rattle.hp_search.specs.declared.lab_fault.LabFault.TheVariants.{NotJson, Bad
 use Rattle.hp_search.specs.declared.program_fault.LabProgramFault.{LabProgramFault}
 use Rattle.hp_search.specs.declared.program_fault.LabProgramFault.TheVariants.{Lab, NotOpened, ReadFailed, Scenario, TooLong}
 
--- the laboratory's fault for a scenario that cannot be read. `NotForRun` never comes from reading, only
--- from making workers' scripts
+-- the laboratory's fault for a scenario that cannot be read. `NotForRun` never comes from reading,
+-- but only from making the scripts of threads
 abbrev pub fault_from : ScenarioFault → LabFault
 fault_from scenario.NotJson = NotJson
 fault_from scenario.BadShape = BadShape

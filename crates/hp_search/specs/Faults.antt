@@ -33,13 +33,13 @@ IsFullTold g (HistoryFull needed) = IsRoomNeeded g needed
 IsFullTold g OutOfMemory = Unit {0}
 IsFullTold g fault = ⊥
 
--- the laboratory's fault for a fault of a call
+-- the laboratory's fault for a fault of an exploration
 abbrev pub IsToldAs : Setting → ExploreFault → LabFault → Type 0
 IsToldAs g explore.HistoryFull fault = IsFullTold g fault
 IsToldAs g explore.OutOfMemory fault = fault ≡ OutOfMemory
 
--- the laboratory's fault for a call that failed for a cause that `C` states; out of memory may come in
--- its place
+-- the laboratory's fault for an exploration that failed for a cause that `C` states; out of memory
+-- may come in its place
 abbrev pub IsUntold : (C : Setting → ExploreFault → Type 0) → Setting → LabFault → Type 0
 IsUntold C g (HistoryFull needed) = IsFull C needed g
 IsUntold C g OutOfMemory = Unit {0}
@@ -51,8 +51,8 @@ IsUntold C g fault = ⊥
 abbrev pub IsUnread : (input : List ℕ) → LabFault → Type 0
 IsUnread input fault = (why : ScenarioFault) × (named_in input ≡ Err why) × (fault ≡ fault_from why)
 
--- the cause of each fault, if `C` states the causes of a call's fault. `PastLayout` comes only from a
--- search for an end
+-- the cause of each fault, if `C` states the causes of an exploration's faults. `PastLayout` never
+-- comes here, but only from a search for an end
 abbrev pub IsFaultWith : (C : Setting → ExploreFault → Type 0) → (input : List ℕ) → (setup : ℕ) → LabFault
     → Type 0
 IsFaultWith C input setup NotJson = IsUnread input NotJson

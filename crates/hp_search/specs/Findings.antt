@@ -55,11 +55,12 @@ IsFindingOf form input setup wanted text result =
 abbrev pub IsPastLayout : List Wanted → (number : ℕ) → Setting → Type 0
 IsPastLayout wanted number g = IsFirstPast g.layout wanted number
 
--- the cause of a call's fault in a search
+-- the cause of a fault of a search for an end. No wanted line names anything past the layout
 abbrev pub IsSearchCause : List Wanted → Setting → ExploreFault → Type 0
 IsSearchCause wanted g fault = AreWithin g.layout wanted × IsFindCause g wanted (find_fault_from fault)
 
--- the cause of each fault of a search. `HistoryFull` comes only from a call that the search makes
+-- the cause of each fault of a search for an end. `HistoryFull` comes only from a call that the
+-- search makes
 abbrev pub IsFindFaultOf : (input : List ℕ) → (setup : ℕ) → List Wanted → LabFault → Type 0
 IsFindFaultOf input setup wanted (PastLayout number) =
     InScenario input setup (HoldsAfter (IsPastLayout wanted number) setup)

@@ -51,8 +51,8 @@ pub record IsFirstOf (by : GroupingValue) (x : OutcomeValue) (ends : List Ending
   pub agrees : Agree by e.outcome x
   pub earliest : (k : ℕ) (d : Ending) → slice_get ends k ≡ Some d → Agree by d.outcome x → place ≤ k
 
--- `g` is a group of ends. Its outcome and its first schedule come from the first end that agrees
--- with it, and it counts the schedules of all ends that do
+-- `g` is a group of ends. Its outcome and its first schedule are those of the first end that agrees
+-- with it, and it counts the schedules of all ends that agree with it
 pub record IsGroup (by : GroupingValue) (ends : List Ending) (g : Ending) : Type 0 where
   pub leader : Ending
   pub leads : IsFirstOf by g.outcome ends leader
@@ -71,7 +71,7 @@ pub record AreGroups (by : GroupingValue) (ends groups : List Ending) : Type 0 w
   pub total : sum_by (λ e. e.count) groups ≡ sum_by (λ e. e.count) ends
   pub ordered : AreInOrder ends → AreInOrder groups
 
--- the ends that are shown: either these ends or their groups
+-- what is shown: the groups of the ends, or without a grouping the ends themselves
 abbrev pub AreShown : Option GroupingValue → (ends shown : List Ending) → Type 0
 AreShown None ends shown = shown ≡ ends
 AreShown (Some by) ends shown = AreGroups by ends shown
@@ -92,13 +92,13 @@ HasGroupAt by groups x place =
 abbrev pub HasNoGroup : GroupingValue → List Ending → OutcomeValue → Type 0
 HasNoGroup by groups x = (j : ℕ) (g : Ending) → slice_get groups j ≡ Some g → Agree by g.outcome x → ⊥
 
--- the end joins its group, which now counts its schedules too
+-- the end `e` joins its group, which now counts the schedules of `e` too
 pub record Joins (by : GroupingValue) (old : List Ending) (e : Ending) (new : List Ending) : Type 0 where
   pub place : ℕ
   pub has : HasGroupAt by old e.outcome place
   pub counted : AddsAt old place e.count new
 
--- no group agrees with the end, so the end begins one
+-- no group agrees with the end `e`, so a new group begins with it
 pub record Begins (by : GroupingValue) (old : List Ending) (e : Ending) (new : List Ending) : Type 0 where
   pub group : Ending
   pub none : HasNoGroup by old e.outcome
@@ -107,7 +107,7 @@ pub record Begins (by : GroupingValue) (old : List Ending) (e : Ending) (new : L
   pub first : group.first.items ≡ e.first.items
   pub new_is : new ≡ old ++ group ∷ []
 
--- either the end joins its group, or it begins one
+-- either the end joins its group, or a new group begins with it
 abbrev pub AddsEnd : GroupingValue → List Ending → Ending → List Ending → Type 0
 AddsEnd by old e new = Joins by old e new ⊎ Begins by old e new
 
@@ -123,7 +123,7 @@ digest_in Plans cpus scripts x = plans_digest (all_plan_ends cpus scripts x.repl
 abbrev pub part_digest : GroupingValue → OutcomeValue → ℕ
 part_digest by x = digest_in by.by by.cpus by.scripts x
 
--- the map has the hash of each group
+-- the map has the hash of each group, taken from the part of its outcome that the grouping names
 abbrev pub AreKnown : {S : Type 0} → GroupingValue → List Ending → IndexMap ℕ ℕ S → Type 0
 AreKnown by groups latest =
     (j : ℕ) (g : Ending) → slice_get groups j ≡ Some g → ContainsKey nat_eq latest (part_digest by g.outcome)

@@ -17,8 +17,8 @@ pub record HoldsAfter (P : Setting → Type 0) (setup : ℕ) (s : NamedValue) : 
   pub begun : HasStart s.scenario s.sources setup start scripts
   pub holds : P (setting start scripts)
 
--- the bytes are a scenario, and `P` holds of it with numbers in place of the names of results; the
--- first `count` lines, run in order, give these numbers
+-- the bytes are a scenario. `P` holds of it with numbers in place of the names for results of its
+-- first `count` lines. These lines, run in order, give the numbers
 pub record InScenario (input : List ℕ) (count : ℕ) (P : NamedValue → Type 0) : Type 0 where
   pub named : NamedValue
   pub read : named_in input ≡ Ok named

@@ -31,8 +31,8 @@ abbrev pub played_list : (names : List (List ℕ)) → (calls : Option (List Rec
 played_list names None = []
 played_list names (Some calls) = calls_text (codes ", ") names calls
 
--- an end without its closing bracket: its number, its count, the replies from processor 0 on, the
--- states from block 0 on, and the calls of its first interleaving
+-- an end's object without its closing bracket: its number, its count, the replies from processor 0
+-- on, the states from block 0 on, and the calls of its first interleaving
 abbrev pub keys_text : (names : List (List ℕ)) → (number : ℕ) → Ending → (calls : Option (List Record))
     → List ℕ
 keys_text names number e calls =
@@ -55,7 +55,8 @@ first_object counted known =
     codes "{\"first\": " ++ decimal counted ++ codes ", \"interleavings\": " ++ known_number known
     ++ codes "}\n"
 
--- the object with both numbers of interleavings; nothing if all were counted
+-- an object with the number of interleavings that were counted, and the number of all; nothing if
+-- all were counted
 abbrev pub more_object : (counted : ℕ) → Option HowMany → List ℕ
 more_object counted None = []
 more_object counted (Some known) = first_object counted known

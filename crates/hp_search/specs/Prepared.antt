@@ -26,8 +26,8 @@ names_of p = p.scenario.names.keys
 abbrev pub before_of : Prepared → List Line
 before_of p = take p.setup p.scenario.lines
 
--- `p` is the scenario in the bytes, made ready for a search after `setup` lines. Numbers replace
--- the names of the results of these lines
+-- `p` is the scenario in the bytes, made ready for a search after its first `setup` lines. Numbers
+-- replace the names for results of these lines
 pub record IsPrepared (input : List ℕ) (setup : ℕ) (p : Prepared) : Type 0 where
   pub number : p.setup ≡ setup
   pub named : NamedValue
@@ -47,7 +47,7 @@ IsUnprepared input setup fault = IsFaultWith (λ g f. ⊥) input setup fault
 abbrev pub calls_in : Setting → Option MachineValue → Option (List Record)
 calls_in g played = option_map (λ m. drop (length g.start) m.history) played
 
--- the machine, if there is one, has at least the setup's records
+-- the machine, if there is one, has at least as many records as there were after the setup
 abbrev pub GoesOn : Setting → Option MachineValue → Type 0
 GoesOn g None = Unit {0}
 GoesOn g (Some m) = length g.start ≤ length m.history

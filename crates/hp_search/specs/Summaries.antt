@@ -14,11 +14,12 @@ Continues old new = (rest : List ℕ) × (new ≡ old ++ rest)
 abbrev pub line_start : (number : ℕ) → Ending → List ℕ
 line_start number e = codes "end " ++ decimal number ++ codes ": " ++ decimal e.count ++ codes ", "
 
--- the line of end `number` was added to the text `old`; only the beginning of the line is stated
+-- the text `new` is `old` and then the line of end `number`, of which only the beginning is stated
 abbrev pub WritesLine : (number : ℕ) → Ending → (old new : List ℕ) → Type 0
 WritesLine number e old new = Continues (old ++ line_start number e) new
 
--- the lines are one per end, in order; ends are counted from 1
+-- there is one line per end, in order. Each begins with the number of its end, counted from 1, and
+-- the end's count
 pub record AreLinesOf (ends : List Ending) (lines : List (List ℕ)) : Type 0 where
   pub many : length lines ≡ length ends
   pub each : (k : ℕ) (line : List ℕ) → slice_get lines k ≡ Some line

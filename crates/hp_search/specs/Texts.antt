@@ -16,7 +16,7 @@ abbrev pub numbered_text : (names : List (List ℕ)) → Setting → (number : �
 numbered_text names g number None = []
 numbered_text names g number (Some e) = end_text names g.layout number e (plays g e.first.items)
 
--- the text of the end at index `place`; ends are counted from 1
+-- the text of the end at index `place`, whose number is `place` + 1
 abbrev pub end_at_text : (names : List (List ℕ)) → Setting → List Ending → (place : ℕ) → List ℕ
 end_at_text names g ends place = numbered_text names g (place + 1) (slice_get ends place)
 
@@ -40,7 +40,7 @@ abbrev pub numbered_object : (names : List (List ℕ)) → Setting → (number :
 numbered_object names g number None = []
 numbered_object names g number (Some e) = end_object names g number e
 
--- the object of the end at index `place`; ends are counted from 1
+-- the object of the end at index `place`, whose number is `place` + 1
 abbrev pub object_at : (names : List (List ℕ)) → Setting → List Ending → (place : ℕ) → List ℕ
 object_at names g ends place = numbered_object names g (place + 1) (slice_get ends place)
 
@@ -48,7 +48,8 @@ object_at names g ends place = numbered_object names g (place + 1) (slice_get en
 abbrev pub objects_text : (names : List (List ℕ)) → Setting → List Ending → List ℕ
 objects_text names g ends = texts_below (object_at names g ends) (length ends)
 
--- the objects of all ends, then the number of interleavings if not all were counted
+-- the objects of all ends. If not all interleavings were counted, then an object with the number
+-- that were and the number of all
 abbrev pub all_objects_text : (names : List (List ℕ)) → Setting → List Ending → Option HowMany → List ℕ
 all_objects_text names g ends more =
     objects_text names g ends ++ more_object (sum_by (λ e. e.count) ends) more

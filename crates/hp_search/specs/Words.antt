@@ -49,13 +49,14 @@ end_text names l number e calls =
 
 -- ---- the numbers of interleavings and ends
 
--- the number of interleavings, if not all were counted
+-- how many interleavings there are, if only `counted` were counted: the number if it is known, and
+-- otherwise that there are more than `counted`
 abbrev pub many_text : (counted : ℕ) → HowMany → List ℕ
 many_text counted (Exactly count) = decimal count ++ codes " interleavings"
 many_text counted MoreThanLimit = codes "more than " ++ decimal counted ++ codes " interleavings"
 many_text counted Unknown = codes "more than " ++ decimal counted ++ codes " interleavings"
 
--- the number of interleavings and, if not all were counted, the number that were
+-- how many interleavings there are and, if not all were counted, how many were
 abbrev pub total_text : (counted : ℕ) → Option HowMany → List ℕ
 total_text counted None = codes "interleavings: " ++ decimal counted
 total_text counted (Some known) =

@@ -17,7 +17,9 @@ use std::alloc::Global;
 
 impl Prepared {
     /// Returns the text of an exploration of the scripts, as `explore_text` returns it.
-    /// Fails like `ends_told`.
+    ///
+    /// Replays the first interleaving of each end whose calls the text has. The error is
+    /// `HistoryFull` if the history has no room for all calls of one of these, or `OutOfMemory`.
     pub fn exploration_told(
         &self,
         alloc: Global,
@@ -35,11 +37,12 @@ impl Prepared {
         self.ends_told(alloc, &explored.ends, more, form)
     }
 
-    /// Returns `ends` as `explore_text` prints them. `more` is `None` if they are all the ends, and
-    /// otherwise what is known of the number of interleavings.
+    /// Returns the text of `ends` in `form`, as `explore_text` returns it. `more` is `None` if all
+    /// interleavings were counted, and otherwise what is known of their number.
     ///
-    /// Replays the first interleaving of each end that it prints. The error is `HistoryFull` if the
-    /// history has no room for one of these.
+    /// Replays the first interleaving of each end whose calls the text has; a summary has none. The
+    /// error is `HistoryFull` if the history has no room for all calls of one of these, or
+    /// `OutOfMemory`.
     pub fn ends_told(
         &self,
         alloc: Global,
@@ -105,7 +108,7 @@ impl Prepared {
         Ok(())
     }
 
-    /// Writes an end as words.
+    /// Writes end `number` as words. Replays its first interleaving, and fails like `played`.
     fn write_numbered(
         &self,
         out: &mut String,
@@ -126,7 +129,7 @@ impl Prepared {
         Ok(())
     }
 
-    /// Writes one object per end, in order.
+    /// Writes one JSON object per end, in order.
     fn write_objects(
         &self,
         out: &mut String,
@@ -146,9 +149,10 @@ impl Prepared {
         Ok(())
     }
 
-    /// Writes the object of an end without its closing bracket. It has the end's number, how many
-    /// interleavings lead to it, the processors' replies, the states of the memory blocks, and the
-    /// calls of the first interleaving. Replays that interleaving, and fails like `played`.
+    /// Writes the JSON object of an end without its closing bracket. The object has the end's
+    /// number, how many interleavings lead to it, the processors' replies, the states of the memory
+    /// blocks, and the calls of the first interleaving. Replays that interleaving, and fails like
+    /// `played`.
     pub fn write_end_keys(
         &self,
         out: &mut String,
@@ -168,8 +172,8 @@ impl Prepared {
         Ok(())
     }
 
-    /// Returns a schedule of the scripts as a scenario. Replays the schedule, and fails like
-    /// `played`.
+    /// Returns a schedule of the scripts as a scenario, or an empty text if it cannot be played.
+    /// Replays the schedule, and fails like `played`.
     fn replay_told(&self, alloc: Global, schedule: &[Cpu]) -> Result<String, ExploreFault>
         ensures ok { IfOk result (λ text. string_bytes text
             ≡ replay_text (names_of self.now) (before_of self.now) (setting_of self.now) schedule.now) }
@@ -182,7 +186,8 @@ impl Prepared {
         Ok(text)
     }
 
-    /// Returns the scenario of end `number`, or no text if there is no such end.
+    /// Returns the first interleaving of end `number` as a scenario, or an empty text if no end has
+    /// this number.
     fn end_told(
         &self,
         alloc: Global,
@@ -213,7 +218,7 @@ impl Prepared {
     }
 }
 
-/// Returns end `number`; ends are counted from 1.
+/// Returns end `number`, if there is one; ends are counted from 1.
 #[tactic(auto, using(crate::proofs::Known::numbered_at))]
 fn numbered_end(ends: &[Ending], number: u64) -> Option<&Ending>
     ensures some { IfSome result (λ end. IsNumbered ends.now number end.now) }

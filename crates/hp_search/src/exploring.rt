@@ -21,12 +21,12 @@ use std::alloc::Global;
 /// As words, the text has the number of interleavings. For each different end, it has how many lead
 /// to it, the processors' replies, the states of the memory blocks, and the calls of the first
 /// interleaving that leads to it. As objects, it has one line of JSON per end, and as a summary one
-/// line of words. In these forms the text reports if not all interleavings were counted, and
-/// `is_found` is then false.
+/// line of words. In these three forms, if not all interleavings were counted, the text reports
+/// that, and `is_found` is false.
 ///
-/// As a scenario, the text has the layout, the lines of the setup, and the calls of the first
-/// interleaving that leads to the end with the number. If no end has that number, the text is
-/// empty, and `is_found` is false.
+/// As `Scenario(n)`, the text has the layout, the lines of the setup, and the calls of the first
+/// interleaving that leads to end `n`. Without an end `n`, the text is empty and `is_found` is
+/// false.
 ///
 /// With `by`, ends that agree in this part of their outcome are grouped, and the text has the
 /// groups in place of the ends.
@@ -34,8 +34,8 @@ use std::alloc::Global;
 /// While the search runs, `watch` gets its progress, and may end it.
 ///
 /// Errors: those of reading the scenario; `NotForScript` with the first line after the setup that
-/// may not be in a script; `HistoryFull` if the history has no room for a call that the search
-/// makes before it has counted more interleavings than the limit; `OutOfMemory`, which may come in
+/// may not be in a script; `HistoryFull` if the history has no room for a call of the search, and
+/// at most `limit` complete interleavings come before that call; `OutOfMemory`, which may come in
 /// place of any other result.
 pub fn explore_text<W: Watch>(
     alloc: Global,
@@ -58,7 +58,7 @@ pub fn explore_text<W: Watch>(
     }
 }
 
-/// Explores a prepared scenario, and writes the result in a form.
+/// Explores a prepared scenario and returns the result as text in `form`.
 fn explored<W: Watch>(
     alloc: Global,
     prepared: &Prepared,

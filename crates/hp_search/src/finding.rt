@@ -16,13 +16,14 @@ use hp_questions::{Wanted, first_past};
 use hp_units::{Cpu, Record};
 use std::alloc::{AllocError, Global};
 
-/// Searches the scenario in `input` for an interleaving whose end has each of the wanted lines,
-/// with the fewest changes of processor. The first `setup` lines are run in order; each later line
-/// goes to the script of its processor, as for `explore_text`.
+/// Searches the scenario in `input` for an interleaving whose end meets each of the wanted lines,
+/// with the fewest changes of processor. The first `setup` lines are run in order, and each later
+/// line goes to the script of its processor. There, operation 0 is the one that the processor began
+/// last.
 ///
-/// If there is such an interleaving, the text has the first one with the fewest changes: as words
-/// or as an object with its number of changes and its calls, or as a scenario. If there is none,
-/// the text reports that; if `watch` ended the search, it reports that nothing is known. As a
+/// If an interleaving ends as wanted, the text has the first one with the fewest changes. As words
+/// or as an object, this is its number of changes and its calls; else it is a scenario. If there is
+/// none, the text reports that. If `watch` ended the search, it reports that nothing is known. As a
 /// scenario it is empty in both cases.
 ///
 /// `watch` gets the number of states that the search has reached.
@@ -168,7 +169,8 @@ fn text_of(
     }
 }
 
-/// Returns the text, in `form`, if no interleaving ends as wanted. As a scenario the text is empty.
+/// Returns the text that reports, in `form`, that no interleaving ends as wanted. As a scenario the
+/// text is empty.
 fn absent_told(form: ScheduleForm) -> &'static str
     ensures { result.now ≡ absent_told form }
 {
@@ -179,8 +181,8 @@ fn absent_told(form: ScheduleForm) -> &'static str
     }
 }
 
-/// Returns the text, in `form`, of a search that was ended before it knew. As a scenario the text
-/// is empty.
+/// Returns the text that reports, in `form`, that a search was ended before it knew the result. As
+/// a scenario the text is empty.
 fn unknown_told(form: ScheduleForm) -> &'static str
     ensures { result.now ≡ unknown_told form }
 {

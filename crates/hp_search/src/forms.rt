@@ -3,13 +3,14 @@
 /// How the ends of an exploration are written.
 #[derive(Clone, Copy, Drop)]
 pub enum EndsForm {
-    /// All of them, as words.
+    /// All ends, as words.
     Words,
-    /// All of them, as JSON, one object per line.
+    /// All ends, as JSON, one object per line.
     Objects,
-    /// One line of words for each.
+    /// How many interleavings and ends there are, then one line of words per end.
     Summary,
-    /// The first interleaving of the end with this number, as a scenario; ends are counted from 1.
+    /// The first interleaving that leads to the end with this number, as a scenario. Ends are
+    /// counted from 1.
     Scenario(u64),
 }
 
@@ -18,7 +19,7 @@ pub enum EndsForm {
 pub enum ScheduleForm {
     /// Its number of processor changes and its calls, as words.
     Words,
-    /// The same as a JSON object.
+    /// A JSON object with its number of processor changes and its calls.
     Object,
     /// As a scenario.
     Scenario,

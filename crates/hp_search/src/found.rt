@@ -1,11 +1,13 @@
 //! The result of an exploration or a search.
 
-/// The result of an exploration: its text, and whether it found what was asked for.
+/// The result of an exploration, as text.
 #[derive(Drop)]
 pub struct SearchText {
-    /// The ends, or a text that reports that there is none.
+    /// The ends in the form that was asked for. For `EndsForm::Scenario`, the scenario, which is
+    /// empty if no end has the number.
     pub text: String,
-    /// Whether it found what was asked for.
+    /// For `EndsForm::Scenario`, whether an end has the number. For any other form, whether all
+    /// interleavings were counted.
     pub is_found: bool,
 }
 
@@ -14,17 +16,17 @@ pub struct SearchText {
 pub enum FindResult {
     /// An interleaving ends as wanted.
     Found,
-    /// No interleaving does.
+    /// No interleaving ends as wanted.
     Absent,
-    /// The search was ended before it knew.
+    /// The search was stopped before it knew whether an interleaving ends as wanted.
     Unknown,
 }
 
 /// The result of a search for an end, with its text.
 #[derive(Drop)]
 pub struct FindText {
-    /// The interleaving that was found, or a text that reports that there is none, or that it is
-    /// not known.
+    /// The interleaving that was found. If there is none, or if that is not known, the text reports
+    /// it, except that it is empty for `ScheduleForm::Scenario`.
     pub text: String,
     /// How the search ended.
     pub result: FindResult,

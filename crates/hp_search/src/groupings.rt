@@ -39,14 +39,14 @@ impl<'a> Grouping<'a> {
         Grouping { by, cpus, scripts }
     }
 
-    /// Returns the part.
+    /// Returns the part of an outcome by which ends are grouped.
     fn part(&self) -> GroupBy
         ensures { result ≡ self.now.by }
     {
         self.by
     }
 
-    /// Returns how the plans of each processor ended.
+    /// Returns how the plans of each processor ended, given the replies of an outcome.
     fn plan_ends(&self, alloc: Global, outcome: &Outcome) -> Result<Vec<PlanEnds>, AllocError>
         ensures { IfOk result
             (λ ends. ends.items ≡ all_plan_ends self.now.cpus self.now.scripts outcome.now.replies) }
@@ -55,7 +55,7 @@ impl<'a> Grouping<'a> {
     }
 }
 
-/// Returns whether two outcomes agree in the part.
+/// Returns whether two outcomes agree in the part by which ends are grouped.
 pub(crate) fn agree(
     alloc: Global,
     by: &Grouping<'_>,
@@ -139,7 +139,8 @@ fn same_replies(replies: &[Reply], others: &[Reply]) -> bool
     true
 }
 
-/// Returns a hash of a part of an outcome. Equal parts have equal hashes.
+/// Returns a hash of the part of an outcome by which ends are grouped. Equal parts have equal
+/// hashes.
 pub(crate) fn part_digest(
     alloc: Global,
     by: &Grouping<'_>,

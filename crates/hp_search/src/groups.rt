@@ -41,7 +41,8 @@ pub fn groups_of(
     Ok(groups.into_ends())
 }
 
-/// Groups the ends of an exploration, or leaves them as they are if `by` is `None`.
+/// Returns the exploration with its ends grouped by a part of their outcome, or unchanged if `by`
+/// is `None`.
 pub(crate) fn grouped(
     alloc: Global,
     explored: Exploration,
@@ -70,7 +71,8 @@ pub(crate) fn grouped(
 
 /// The groups of the ends so far.
 ///
-/// `latest` maps a hash to the index of the newest group that has it.
+/// `latest` maps the hash of the part by which ends are grouped to the index of the newest group
+/// with this hash.
 struct Groups<'a> {
     by: &'a Grouping<'a>,
     ends: Vec<Ending>,
@@ -147,8 +149,8 @@ impl<'a> Groups<'a> {
         group.count += count;
     }
 
-    /// Begins a group with an end. `digest` is the hash of the part of its outcome. If memory runs
-    /// out, the groups stay as they were.
+    /// Begins a group with an end. `digest` is the hash of the part of its outcome by which ends
+    /// are grouped. If memory runs out, the groups stay as they were.
     fn begin(&mut self, alloc: Global, digest: u64, end: &Ending) -> Result<(), AllocError>
         requires digest { digest ≡ part_digest self.old.by end.now.outcome }
         requires none { HasNoGroup self.old.by self.old.ends end.now.outcome }
@@ -191,8 +193,8 @@ fn copy_of(alloc: Global, end: &Ending) -> Result<Ending, AllocError>
     })
 }
 
-/// Returns the index of the group that an end with this outcome belongs to. `digest` is the hash of
-/// the part of the outcome.
+/// Returns the index of the group that an end with this outcome belongs to, if there is one.
+/// `digest` is the hash of the part of the outcome by which ends are grouped.
 ///
 /// It is nearly always the newest group with this hash. If not, all groups are compared.
 fn place_of(
@@ -233,7 +235,7 @@ fn is_group_at(
     }
 }
 
-/// Returns the index of the first group that an end with this outcome belongs to.
+/// Returns the index of the first group that an end with this outcome belongs to, if there is one.
 fn first_place_of(
     alloc: Global,
     groups: &[Ending],

@@ -1,13 +1,15 @@
 //! What a scenario does in every interleaving of its processors' calls, as text; and the faults of
-//! the laboratory, each with its text.
+//! the program `hotplug_lab`, each with its text.
 //!
 //! hp_starts runs a scenario's setup and makes the scripts, hp_questions defines the lines that an
-//! end is to have or to lack, and hp_explore searches. This crate joins them (`prepared`), returns
-//! what each search found (`exploring`, `threads`, `finding`), and writes ends and schedules as
-//! words, as JSON and as a scenario (`words`, `objects`, `replays`). It owns the conditions on a
-//! scenario's bytes, and states when each fault of a search comes. It also defines the faults of
-//! the program and of adding up parts; the crates that return these state when they come. It opens
-//! no file and no stream.
+//! end must or must not have, and hp_explore searches. This crate joins the three (`prepared`), and
+//! returns what each search found (`exploring`, `threads`, `finding`). It writes ends and schedules
+//! as words, as JSON and as a scenario (`words`, `objects`, `replays`). It opens no file and no
+//! stream.
+//!
+//! The specs define what a contract states about the bytes of a scenario (specs/Holding), and when
+//! each fault of a search comes. This crate also defines the faults of the program and of adding up
+//! the parts of a search. The crates that return such a fault state when it comes.
 //!
 //! Read specs/Prepared and specs/Holding first, then specs/Explorations (what `explore_text`
 //! promises), specs/Findings, specs/Words, specs/FaultTexts and specs/FaultOrigins.

@@ -40,9 +40,9 @@ fn write_first(out: &mut String, counted: u128, known: HowMany) -> Result<(), Al
     }
 }
 
-/// Writes the object of an end without its closing bracket. It has the end's number, how many
-/// interleavings lead to it, the processors' replies, the states of the memory blocks, and the
-/// calls of the first interleaving, if it can be played. Owners are written by name.
+/// Writes the JSON object of an end without its closing bracket. The object has the end's number,
+/// how many interleavings lead to it, the processors' replies, the states of the memory blocks, and
+/// the calls of the first interleaving, if it can be played. Owners are written by name.
 pub fn write_keys(
     out: &mut String,
     names: &IndexSet<Text>,
@@ -133,7 +133,7 @@ fn write_block(out: &mut String, row: Row) -> Result<(), AllocError>
     }
 }
 
-/// Writes a word between quotation marks, with the zone after it.
+/// Writes a word, and the zone after it if there is one, between quotation marks.
 fn write_zoned(out: &mut String, word: &str, zone: Option<Zone>) -> Result<(), AllocError>
     ensures { OnOk result (string_bytes out.new
         ≡ string_bytes out.old ++ codes "\"" ++ (word.now ++ zone_word zone) ++ codes "\"") }
@@ -144,7 +144,8 @@ fn write_zoned(out: &mut String, word: &str, zone: Option<Zone>) -> Result<(), A
     }
 }
 
-/// Writes the calls of a schedule, if it can be played.
+/// Writes the calls of a schedule as the elements of a list. Writes nothing if `calls` is `None`,
+/// because the schedule cannot be played.
 fn write_played(
     out: &mut String,
     names: &IndexSet<Text>,
@@ -159,8 +160,8 @@ fn write_played(
     }
 }
 
-/// Returns the object of a schedule that was found: its number of processor changes, and its calls
-/// if it can be played. Owners are written by name.
+/// Returns the JSON object of a schedule that was found: its number of processor changes, and its
+/// calls if it can be played. Owners are written by name.
 pub fn found_object(
     alloc: Global,
     names: &IndexSet<Text>,

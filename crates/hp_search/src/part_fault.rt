@@ -13,18 +13,19 @@ use std::fmt;
 /// Why parts cannot be added up. Lines and parts are counted from 1.
 #[derive(Clone, Copy, Debug, PartialEq, Eq, Drop)]
 pub enum PartFault {
-    /// The line does not belong to a part; or line 1 is not the head of a part; or the input is
-    /// empty.
+    /// The line does not belong to a part, or has no newline; or line 1 is not the head of a part;
+    /// or the input is empty.
     NotPart { line: u64 },
-    /// The line is the head of a part of another search than the first: another scenario or setup,
-    /// another number of parts, or another number of first calls. Or its part is past the last of
-    /// this search, or it is not byte for byte the head that the search writes for that part.
+    /// The line is the head of a part, but not byte for byte one that the search of line 1 writes.
+    /// The scenario, the setup, the number of parts or the number of first calls that decide a part
+    /// is another one, or the search has no part with this number.
     OtherSearch { line: u64 },
     /// The processors of the line are not a complete interleaving of its part.
     NotOfPart { line: u64 },
     /// The line is not what the search writes for its interleaving: something in it was changed.
     Changed { line: u64 },
-    /// A part stopped at its limit, as the line reports.
+    /// The line reports that its part was stopped before all its interleavings were counted, at its
+    /// limit or by a watch.
     Stopped { line: u64 },
     /// A part has another number of ends than its head names: its file was cut off, or has too many
     /// lines.
@@ -37,7 +38,8 @@ pub enum PartFault {
     TooMany,
     /// The scenario that the head of this part names cannot be explored.
     Head { part: u32, fault: LabFault },
-    /// The interleaving of a line cannot be played; or memory ran out, also while reading.
+    /// The history has no room for a call of a line's interleaving; or memory ran out, also while
+    /// reading.
     Lab(LabFault),
 }
 

@@ -22,7 +22,7 @@ use std::alloc::{AllocError, Global};
 
 /// A scenario made ready for a search.
 pub struct Prepared {
-    /// The scenario, with plain numbers in place of names for results of the setup.
+    /// The scenario, with numbers in place of the names for results of setup lines.
     pub scenario: Scenario,
     /// How many of the scenario's first lines are the setup.
     pub setup: u64,
@@ -89,7 +89,7 @@ impl Prepared {
         play(alloc, &self.start.machine, &self.start.scripts, schedule)
     }
 
-    /// Returns the calls that a machine made after the setup.
+    /// Returns the calls that a machine made after the setup, or `None` if there is no machine.
     pub fn calls_of<'a>(&self, played: &'a Option<Machine>) -> Option<&'a [Record]>
         requires { GoesOn (setting_of self.now) played.now }
         ensures { option_map (λ c. c.now) result ≡ calls_in (setting_of self.now) played.now }
@@ -112,7 +112,8 @@ impl Prepared {
         Ok(Some(known))
     }
 
-    /// Returns calls of the scripts as a scenario: the lines of the setup, then the calls.
+    /// Returns calls of the scripts as a scenario: the layout, the lines of the setup, then the
+    /// calls. The text is empty if `calls` is `None`.
     pub fn replay_of(&self, alloc: Global, calls: Option<&[Record]>) -> Result<String, AllocError>
         ensures { IfOk result (λ text. string_bytes text
             ≡ replayed_text (names_of self.now) (before_of self.now) (setting_of self.now).layout
@@ -127,8 +128,8 @@ impl Prepared {
         )
     }
 
-    /// Returns the laboratory's fault for a fault of a call. For a full history it computes how
-    /// many records are needed.
+    /// Returns the `LabFault` for a fault of an exploration. For a full history, computes how many
+    /// records are needed; if memory runs out meanwhile, the result is `OutOfMemory`.
     pub fn told_fault(&self, alloc: Global, fault: ExploreFault) -> LabFault
         ensures { IsToldAs (setting_of self.now) fault result }
     {

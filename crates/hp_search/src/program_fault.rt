@@ -99,7 +99,8 @@ fn said_of(fault: LabProgramFault) -> (&'static str, Said, &'static str)
     }
 }
 
-/// Returns the text of a scenario's fault, in the same three pieces.
+/// Returns the text of a scenario's fault in three pieces: a fixed text, a middle piece, and a
+/// fixed text.
 fn said_of_scenario(fault: ScenarioFault) -> (&'static str, Said, &'static str)
     ensures { result.0.now ++ said_text result.1 ++ result.2.now ≡ scenario_fault_text fault }
 {

@@ -8,7 +8,8 @@ use hp_schedules::{Ending, HowMany, Replies, total_of};
 use hp_units::{Reply, Row, State, Zone};
 use std::alloc::{AllocError, Global};
 
-/// The most bytes of a line, without its newline. Only a line without blocks may be longer.
+/// The most bytes of a line, without its newline. Only a line in which no block has room may be
+/// longer.
 const WIDTH: usize = 100;
 
 /// Written in a line in place of the blocks that have no room.
@@ -16,12 +17,13 @@ const CUT: &str = " ..";
 
 /// Writes how many interleavings and ends there are, and then a line for each end, in order, such
 /// as `end 2: 31, 55.3 %, 1 refused, 0:N 1:M`. The line has the end's number, how many
-/// interleavings lead to it, their share of those that were counted, how many calls were refused,
-/// and the memory blocks.
+/// interleavings lead to it, and their share of those that were counted. Then it has how many calls
+/// were refused, if any were, and the memory blocks.
 ///
 /// A block is drawn as `trace` draws it, without its frames: `N` or `M` if it is online in this
-/// zone, `N>off` if it is going offline, `off` or `absent`. Neighbours that are drawn alike are
-/// joined, as in `0-3:N`.
+/// zone, `N>off` or `M>off` if it is going offline, `off` or `absent`. Neighbours that are drawn
+/// alike are joined, as in `0-3:N`. In place of the blocks with which a line would be longer than
+/// 100 bytes, it has ` ..`.
 pub fn write_summary(
     out: &mut String,
     alloc: Global,
@@ -100,7 +102,8 @@ fn refusals_in(all: &[Replies]) -> u64 {
     refused
 }
 
-/// Writes the memory blocks, from block 0, until the text would be longer than `most` bytes.
+/// Writes the states of the memory blocks, from block 0. Neighbours with equal states are joined.
+/// Writes `CUT` in place of the blocks with which the text would be longer than `most` bytes.
 fn write_blocks(
     out: &mut String,
     alloc: Global,
@@ -125,13 +128,13 @@ fn write_blocks(
     Ok(())
 }
 
-/// Returns whether `more`, and `CUT` after it, fit into `most` bytes.
+/// Returns whether `out`, followed by `more` and `CUT`, has at most `most` bytes.
 fn has_room(out: &str, more: &str, most: usize) -> bool {
     let long = out.len().saturating_add(more.len());
     long.saturating_add(CUT.len()) <= most
 }
 
-/// Returns whether the row at index `place` is equal to the next one.
+/// Returns whether there are a row at index `place` and a next one, and both are equal.
 fn is_like_next(rows: &[Row], place: usize) -> bool {
     match (rows.get(place), rows.get(place.saturating_add(1))) {
         (Some(row), Some(next)) => same_row(row, next),

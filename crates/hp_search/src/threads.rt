@@ -12,10 +12,11 @@ use hp_explore::{ExploreFault, Watch, explore_with_jobs};
 use std::alloc::Global;
 use std::thread::Threads;
 
-/// Explores a scenario like `explore_text`, in `jobs` threads, with the same result and the same
-/// errors.
+/// Explores a scenario in `jobs` threads, at most 256. Returns what `explore_text` returns, and
+/// fails like it.
 ///
-/// While the searches run, `watch` is called as by `explore_with_jobs` of hp_explore.
+/// Calls `watch` as `explore_with_jobs` of hp_explore does: once with the total after the threads,
+/// or as in a search by a single thread if the threads' results cannot be used.
 pub fn explore_text_with_jobs<W: Watch>(
     rt: &(impl Threads + Sync),
     alloc: Global,

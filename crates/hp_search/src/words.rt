@@ -113,7 +113,7 @@ fn write_blocks(out: &mut String, blocks: u32, rows: &[Row]) -> Result<(), Alloc
     Ok(())
 }
 
-/// Writes the state of a memory block.
+/// Writes the state of a memory block, if `row` has one.
 fn write_block(out: &mut String, block: Block, row: Option<Row>) -> Result<(), AllocError>
     ensures { OnOk result (string_bytes out.new ≡ string_bytes out.old ++ block_line block row) }
 {

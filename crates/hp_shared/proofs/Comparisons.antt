@@ -132,7 +132,8 @@ marked seats marks latest place seat was new receipts apart at marked_was seat_t
         )
 
 -- a record of no seat
-pub unmarked : (seats : List SeatValue) (marks : List Compared) (latest : Record) → IsUnseated seats latest.cpu
+pub unmarked : (seats : List SeatValue) (marks : List Compared) (latest : Record)
+    → IsUnseated seats latest.cpu
     → (history : List Record) → AreMarks history seats marks → AreMarks (history ++ latest ∷ []) seats marks
 unmarked seats marks latest none history are p s there =
     let found = are p s there in (

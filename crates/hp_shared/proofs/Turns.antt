@@ -121,7 +121,8 @@ pub reached_on : {A : Type 0} (l : LayoutParts) (m : MachineValue) (was total fu
     → IsShared l (record { machine = m; total = was }) → was ≤ total
     → ((answer ≡ Err HistoryFull) ↔ IsTrue (is_full m)) → (0 < fulls → IsReached l was)
     → told ≡ fulls + fulls_of answer → 0 < told → IsReached l total
-reached_on {A} l m was total fulls told answer shared more full before counted some = by_answer answer full counted
+reached_on {A} l m was total fulls told answer shared more full before counted some =
+    by_answer answer full counted
   where
     later : IsReached l was → IsReached l total
     later (inl most) = inl (omega (arith, most, more))

@@ -19,8 +19,8 @@ pub record IsChecked (m : MachineValue) (cpus : ℕ) (seats : List SeatValue) (v
   pub settled : IsSettled (all_records volumes m) seats
   pub records : count ≡ length (all_records volumes m)
 
--- each fault only from its own cause, if no earlier one applies; `WrongVolume` names the first
--- volume that does not follow, `Mismatch` the lowest serial of a mismatch
+-- the fault applies, and no fault above it in this list does, except that OutOfMemory may hide a
+-- Mismatch. `at` is as in IsWrongAt, `serial` is the lowest serial of a mismatch
 abbrev pub HasFault : MachineValue → (cpus : ℕ) → List SeatValue → List Volume → CloseFault → Type 0
 HasFault m cpus seats volumes SeatMissing = HasEach cpus seats → ⊥
 HasFault m cpus seats volumes (WrongVolume at) = HasEach cpus seats × IsWrongAt volumes m.before at
@@ -29,34 +29,36 @@ HasFault m cpus seats volumes (Mismatch serial) =
     × IsLowest (MismatchesAt (all_records volumes m) seats) serial
 HasFault m cpus seats volumes OutOfMemory = HasEach cpus seats × ReachSealed volumes m.before
 
--- if a seat found the history full, all records, `all` in number, reach the limit
+-- if a call of a seat found the history full, `all`, the number of all records, has reached the
+-- limit of a history, or no serial is left
 abbrev pub AreReached : LayoutParts → List SeatValue → (all : ℕ) → Type 0
 AreReached l seats all = All (HasReached l all) seats
 
 -- the machine is the shared one, and all its records, `count` in number, are exactly the seats'
--- receipts; they reach the limit if a seat found the history full
+-- receipts. If a seat found the history full, `count` has reached the limit, or no serial is left
 pub record IsClosed (l : LayoutParts) (seats : List SeatValue) (volumes : List Volume) (m : MachineValue)
     (count : ℕ) : Type 0 where
   pub shared : IsShared l (record { machine = m; total = count })
   pub checked : IsChecked m l.cpus seats volumes count
   pub reached : AreReached l seats count
 
--- how many receipts all seats have, and how many records their seals handed out
+-- how many receipts all seats have
 abbrev pub receipts_in : List SeatValue → ℕ
 receipts_in seats = sum_by (λ seat. length seat.receipts) seats
 
+-- how many records the seals of all seats handed out
 abbrev pub handed_in : List SeatValue → ℕ
 handed_in seats = sum_by (λ seat. seat.sealed) seats
 
 -- the seats have as many receipts as there are records, and their seals handed out all sealed
--- records; the records reach the limit if a seat found the history full
+-- records. If a seat found the history full, the records reach the limit, or no serial is left
 pub record AreCounted (l : LayoutParts) (seats : List SeatValue) (seen : LockedValue) : Type 0 where
   pub receipts : receipts_in seats ≡ seen.total
   pub handed : handed_in seats ≡ seen.machine.before
   pub reached : AreReached l seats seen.total
 
--- the fault comes from what was under the lock; if there are as many seats as processors, their
--- counts agree with it
+-- the fault applies to some state that was under the lock; if there are as many seats as
+-- processors, the seats' counts agree with that state
 pub record HasCause (l : LayoutParts) (seats : List SeatValue) (volumes : List Volume)
     (why : CloseFault) : Type 0 where
   pub seen : LockedValue

@@ -7,18 +7,19 @@ use Rattle.hp_shared.specs.declared.marks.Compared.{Compared}
 use Rattle.hp_shared.specs.Comparing.{IsOutcome, IsSeatOf, StraysAt}
 use Rattle.hp_shared.specs.Shared.{SeatValue}
 
--- the lower of two results
+-- the lower of two serials, or the one that there is
 abbrev pub lower : Option ℕ → Option ℕ → Option ℕ
 lower None n = n
 lower (Some m) None = Some m
 lower (Some m) (Some n) = Some (if nat_le m n then m else n)
 
--- an entry is not this record's receipt, and `serial` is that of the entry or of the record
+-- `entry` is not the receipt `b`, and `serial` is that of one of these two
 abbrev pub EntryDiffersAt : Option Receipt → Receipt → ℕ → Type 0
 EntryDiffersAt entry b serial =
     (entry ≢ Some b) × ((b.serial ≡ serial) ⊎ ((a : Receipt) × (entry ≡ Some a) × (a.serial ≡ serial)))
 
--- at some place of `done` the seat has another receipt, or none
+-- at some place of `done` the seat has another receipt or none, and `serial` is that of one of the
+-- receipts there
 abbrev pub DiffersBefore : List Receipt → List Receipt → ℕ → Type 0
 DiffersBefore receipts done serial =
     (at : ℕ) × (b : Receipt) × (slice_get done at ≡ Some b) × EntryDiffersAt (slice_get receipts at) b serial
@@ -27,23 +28,24 @@ DiffersBefore receipts done serial =
 abbrev pub Agrees : List Receipt → List Receipt → Type 0
 Agrees receipts done = (at : ℕ) (b : Receipt) → slice_get done at ≡ Some b → slice_get receipts at ≡ Some b
 
--- the mark after the receipts `done`
+-- `m` is the mark of a seat whose receipts have been compared with `done`
 pub record IsMark (receipts done : List Receipt) (m : Compared) : Type 0 where
   pub next : m.next ≡ length done
   pub lowest : IsOutcome (Agrees receipts done) (DiffersBefore receipts done) m.lowest
 
--- each seat's mark after the records so far
+-- `marks` are the marks of all seats after the records of `history` have been compared
 abbrev pub AreMarks : List Record → List SeatValue → List Compared → Type 0
 AreMarks history seats marks =
     (place : ℕ) (seat : SeatValue) → slice_get seats place ≡ Some seat
-    → (m : Compared) × (slice_get marks place ≡ Some m) × IsMark seat.receipts (receipts_of seat.cpu history) m
+    → (m : Compared) × (slice_get marks place ≡ Some m)
+    × IsMark seat.receipts (receipts_of seat.cpu history) m
 
--- `more` records can follow those that were marked: together they are fewer than 2^64
+-- after the records that were compared, `more` can follow: together they are fewer than 2^64
 abbrev pub HasRoom : ℕ → List SeatValue → List Compared → Type 0
 HasRoom more seats marks =
     (history : List Record) × (length history + more < 2 ^ 64) × AreMarks history seats marks
 
--- the records are marked, after any that were marked before
+-- if `old` are the marks after some records, `new` are the marks after these and then `records`
 abbrev pub AreMarkedOn : List Record → List SeatValue → List Compared → List Compared → Type 0
 AreMarkedOn records seats old new =
     (history : List Record) → AreMarks history seats old → AreMarks (history ++ records) seats new

@@ -24,15 +24,15 @@ pub record IsFresh (l : LayoutParts) (m : MachineValue) : Type 0 where
   pub before : m.before ≡ 0
   pub history : m.history ≡ []
 
--- some volumes, each following those before it, lead from the layout's boot to the state `base`,
--- and hold `before` records
+-- some volumes (what seals hand out), each following those before it, lead from the layout's boot
+-- to the state `base`, and hold `before` records
 abbrev pub IsSealedFromBoot : LayoutParts → Memory → ℕ → Type 0
 IsSealedFromBoot l base before =
     (volumes : List Volume) × IsChain l volumes × (before ≡ records_in volumes)
     × (base ≡ state_after l volumes)
 
--- what every lock shows: the layout's machine, sealed from boot on by some volumes, with a legal
--- history and the state that it leads to; `total` is the number of all records
+-- what is under every lock: a machine of the layout, whose history is legal and leads to its state.
+-- Its base is what earlier seals left, from boot on; `total` is the number of all records
 pub record IsShared (l : LayoutParts) (v : LockedValue) : Type 0 where
   pub layout : v.machine.layout ≡ l
   pub sealed : IsSealedFromBoot l v.machine.base v.machine.before
@@ -47,10 +47,11 @@ pub record SeatValue : Type 0 where
   pub sealed : ℕ
   pub fulls : ℕ
 
--- the seat of each processor, before its first call
+-- the seat of a processor before its first call
 abbrev pub first_seat : ℕ → SeatValue
 first_seat cpu = record { cpu = cpu; receipts = []; sealed = 0; fulls = 0 }
 
+-- the seats of all processors before their first calls
 abbrev pub first_seats : (cpus : ℕ) → List SeatValue
 first_seats cpus = map first_seat (range_with_len 0 cpus)
 
@@ -62,7 +63,8 @@ IsFilled l sealed all = (l.history + sealed ≤ all) ⊎ (18446744073709551615 �
 abbrev pub IsReached : LayoutParts → (all : ℕ) → Type 0
 IsReached l all = (l.history ≤ all) ⊎ (18446744073709551615 ≤ all)
 
--- if a seat found the history full, the number of all records has reached that limit
+-- if a seat found the history full, the number of all records has reached that limit, or no serial
+-- is left
 abbrev pub HasReached : LayoutParts → (all : ℕ) → SeatValue → Type 0
 HasReached l all seat = 0 < seat.fulls → IsReached l all
 
@@ -78,8 +80,8 @@ left_by seat HistoryFull =
     record { cpu = seat.cpu; receipts = seat.receipts; sealed = seat.sealed; fulls = seat.fulls + 1 }
 left_by seat OutOfMemory = seat
 
--- as far as the seat's own counts show, the history may be full: with one processor, the seat has
--- at least as many unsealed receipts as the history holds records
+-- the seat's own counts do not exclude that the history is full: on a machine with one processor,
+-- the seat's unsealed receipts reach the limit of a history
 abbrev pub MayBeFull : LayoutParts → SeatValue → Type 0
 MayBeFull l seat = l.cpus ≡ 1 → l.history + seat.sealed ≤ length seat.receipts
 

@@ -1,4 +1,4 @@
--- What seals handed out, besides the machine.
+-- The volumes that seals handed out, and all records: theirs and the machine's own.
 use Rattle.std.specs.Prelude.{ℕ, ◌≡◌, ◌≢◌, ◌+◌, ◌<◌, ◌≤◌, ◌⊎◌, List, [], ◌∷◌, ◌++◌, Some, length, slice_get, take}
 use Rattle.hp_units.specs.LayoutParts.{LayoutParts}
 use Rattle.hp_units.specs.declared.replies.Record.{Record}
@@ -16,29 +16,30 @@ sealed_records (v ∷ vs) = v.records ++ sealed_records vs
 abbrev pub all_records : List Volume → MachineValue → List Record
 all_records volumes m = sealed_records volumes ++ m.history
 
--- each volume before place `end` has the number of records in the volumes before it
+-- for each volume before place `end`, `before` is the number of records in the volumes before it
 abbrev pub AreCountedBefore : List Volume → ℕ → Type 0
 AreCountedBefore volumes end =
     (at : ℕ) (v : Volume) → at < end → slice_get volumes at ≡ Some v → v.before ≡ records_in (take at volumes)
 
--- each volume has that number, and together they hold `sealed` records
+-- for each volume, `before` is the number of records in the volumes before it; together the volumes
+-- hold `sealed` records
 pub record ReachSealed (volumes : List Volume) (sealed : ℕ) : Type 0 where
   pub counted : AreCountedBefore volumes (length volumes)
   pub sealed_all : records_in volumes ≡ sealed
 
--- the volume at this place has another number than that of the records in the volumes before it
+-- `before` of the volume at this place is not the number of records in the volumes before it
 abbrev pub IsMiscounted : List Volume → ℕ → Type 0
 IsMiscounted volumes at =
     (v : Volume) × (slice_get volumes at ≡ Some v) × (v.before ≢ records_in (take at volumes))
 
--- `at` is the place of the first volume with a wrong number; or, if all numbers are right but the
--- volumes do not hold `sealed` records, it is the number of volumes
+-- `at` is the place of the first volume whose `before` is wrong; if none is wrong, but the volumes
+-- do not hold `sealed` records, it is the number of volumes
 pub record IsWrongAt (volumes : List Volume) (sealed at : ℕ) : Type 0 where
   pub counted : AreCountedBefore volumes at
   pub wrong : IsMiscounted volumes at ⊎ ((at ≡ length volumes) × (records_in volumes ≢ sealed))
 
--- a volume is what some state of the shared machine held since its last seal; its last serial is at
--- least the number of the seat's receipts
+-- a volume is what some state of the shared machine held since its last seal; the last serial of
+-- that state is at least the number of the seat's receipts
 pub record IsSealOf (l : LayoutParts) (v : Volume) (receipts : ℕ) : Type 0 where
   pub seen : LockedValue
   pub shared : IsShared l seen

@@ -35,7 +35,7 @@ pub enum CloseFault {
 pub struct Closed {
     /// The machine, no longer under a lock.
     pub machine: Machine,
-    /// Its sealed records, in order.
+    /// The volumes of the machine's sealed records, in order.
     pub volumes: Vec<Volume>,
     /// How many records there are, in the volumes and in the machine.
     pub records: u64,
@@ -162,11 +162,11 @@ impl<L: Job> Locked<L> {
         }
     }
 
-    /// Checks that the machine may be closed: there is exactly one seat per processor, the volumes
-    /// are all that the machine sealed, and each seat's receipts are exactly its processor's
-    /// records, in the volumes and then in the machine. Returns how many records there are in all.
-    /// Takes time linear in the records and receipts if the seats are in processor order, and
-    /// quadratic in the seats. Memory is one mark per seat.
+    /// Checks that the machine may be closed. There must be exactly one seat per processor, and the
+    /// volumes must be all that the machine sealed. Each seat's receipts must be exactly its
+    /// processor's records, in the volumes and then in the machine. Returns how many records there
+    /// are in all. Takes time linear in the records and receipts if the seats are in processor
+    /// order, and quadratic in the seats. Memory is one mark per seat.
     ///
     /// Errors, checked in this order: `SeatMissing`, `WrongVolume`, `Mismatch`. `OutOfMemory` may
     /// replace `Mismatch` or `Ok`.

@@ -45,8 +45,8 @@ fn has_twin<L: Job>(seats: &Vec<Seat<L>>, place: usize) -> bool
     false
 }
 
-/// Returns the index of a processor's seat. Tries the processor's number first: it is usually
-/// there.
+/// Returns the index of a processor's seat. Tries the processor's number first: seats are usually
+/// in the order of the processors.
 fn place_of<L: Job>(seats: &Vec<Seat<L>>, cpu: Cpu) -> Option<usize>
     ensures found { IfSome result (λ place. IsSeatAt seats.now.items cpu place) }
     ensures none { IfNone result (IsUnseated seats.now.items cpu) }
@@ -63,10 +63,10 @@ fn place_of<L: Job>(seats: &Vec<Seat<L>>, cpu: Cpu) -> Option<usize>
     None
 }
 
-/// Compares the receipts of all seats, no two of which have the same processor, with all records:
-/// those of the volumes, which are all that the machine sealed, then the machine's own. Returns
-/// `None` if each seat's receipts are its processor's records and there are no others; otherwise
-/// the lowest serial at which they differ.
+/// Compares the receipts of all seats, no two of which have the same processor, with all records.
+/// These are the records of the volumes, which are all that the machine sealed, and then the
+/// machine's own. Returns `None` if each seat's receipts are its processor's records and there are
+/// no others; otherwise the lowest serial at which they differ.
 pub fn compare<L: Job>(
     alloc: Global,
     volumes: &Vec<Volume>,
@@ -90,8 +90,8 @@ pub fn compare<L: Job>(
     Ok(lowest)
 }
 
-/// Marks the records of volumes, before any others. Returns the lowest serial of a record that
-/// belongs to no seat.
+/// Compares the records of volumes, before any others, with the receipts of their seats. Returns
+/// the lowest serial of a record that belongs to no seat.
 fn mark_volumes<L: Job>(
     seats: &Vec<Seat<L>>,
     marks: &mut Vec<Compared>,
@@ -114,8 +114,8 @@ fn mark_volumes<L: Job>(
     lowest
 }
 
-/// Marks more records, each at its seat. Returns the lowest serial of a record that belongs to no
-/// seat.
+/// Compares more records, each with the next receipt of its seat. Returns the lowest serial of a
+/// record that belongs to no seat.
 fn mark_records<L: Job>(
     seats: &Vec<Seat<L>>,
     marks: &mut Vec<Compared>,
@@ -134,7 +134,8 @@ fn mark_records<L: Job>(
     lowest
 }
 
-/// Marks one more record at its seat. Returns the record's serial if it belongs to no seat.
+/// Compares one more record with the next receipt of its seat. Returns the record's serial if it
+/// belongs to no seat.
 fn mark_record<L: Job>(
     seats: &Vec<Seat<L>>,
     marks: &mut Vec<Compared>,

@@ -14,9 +14,9 @@ use std::alloc::{AllocError, Global};
 use std::marker::Model;
 use std::sync::ledger::{Book, Share};
 
-/// A machine of the job's layout, with the totals that the ledgers of the seats' shares count: of
-/// all records, sealed ones included, of sealed records, and of calls that found the history full.
-/// Each ledger has one part per processor.
+/// A machine of the layout of `L`, with three totals: of all records, sealed ones included, of
+/// sealed records, and of calls that found the history full. Each total belongs to a ledger, which
+/// has one part per processor; the seats hold the parts.
 ///
 /// If a call found the history full, there are at least as many records as the limit, or no serial
 /// is left.
@@ -67,17 +67,19 @@ impl<L: Job> Locked<L> {
     }
 
     /// Makes one call of the machine for a seat, and returns the serial of its record and the
-    /// reply. If it was recorded, the total and the seat's share each rise by one; no share is
-    /// above the total. If it found the history full, `told` rises by one; from then on a seat for
-    /// which it rose gets only serials above the limit. Waits for nobody: the caller holds the
-    /// lock.
+    /// reply. Waits for nobody: the caller holds the lock.
+    ///
+    /// A call that is recorded adds one to the total and to `share`, the seat's count of records;
+    /// no such count is above the total. A call that finds the history full adds one to `told`, the
+    /// seat's count of such calls. If `told` was not 0 before the call, the serial is above the
+    /// limit.
     ///
     /// Errors are those of `Machine::answer`, with `HistoryFull` if and only if the history holds
     /// its limit or the last serial is 2^64 - 1. On an error, nothing but `told` changes.
     ///
-    /// A share with a part for each processor counts all records. It gets `HistoryFull` only if
-    /// their number, less the sealed ones that the seat counts, has reached the limit, or no serial
-    /// is left.
+    /// If `share` has the parts of all processors, it counts all records. The call then fails as
+    /// `HistoryFull` only if their number, less the sealed ones in `handed`, has reached the limit,
+    /// or no serial is left.
     pub fn turn(
         &mut self,
         alloc: Global,
@@ -153,8 +155,8 @@ impl<L: Job> Locked<L> {
         Ok(volume)
     }
 
-    /// Called for its contract: shares with a part for each processor equal the totals. Has no
-    /// effect.
+    /// Called for its contract: shares that have the parts of all processors equal the totals. Has
+    /// no effect.
     pub(crate) fn audit(&mut self, share: &mut Share<L>, handed: &mut Share<Sealed<L>>)
         ensures locked { self.new ≡ self.old }
         ensures share { (share.new.parts ≡ share.old.parts) × (share.new.amount ≡ share.old.amount) }
@@ -169,7 +171,7 @@ impl<L: Job> Locked<L> {
     }
 
     /// Called for its contract: if a share counts a call that found the history full, all records
-    /// reach the limit. Has no effect.
+    /// reach the limit, or no serial is left. Has no effect.
     pub(crate) fn audit_full(&mut self, told: &mut Share<Fulls<L>>)
         ensures locked { self.new ≡ self.old }
         ensures told { (told.new.parts ≡ told.old.parts) × (told.new.amount ≡ told.old.amount) }

@@ -12,7 +12,7 @@ use hp_units::{Receipt, Record, Serial};
 pub struct Compared {
     /// How many of the processor's records were compared.
     pub next: usize,
-    /// The lowest serial so far at which the seat's receipts differ from them.
+    /// The lowest serial so far at which the seat's receipts differ from the processor's records.
     pub lowest: Option<Serial>,
 }
 

@@ -15,10 +15,10 @@ use std::marker::Model;
 use std::sync::Wait;
 use std::sync::ledger::Share;
 
-/// A processor's only access to the shared machine. It keeps a receipt of each of its calls, and
-/// holds shares of one part of the machine's totals: how many receipts it has, how many records its
-/// seals handed out, which it also counts, and how many of its calls found the history full. Shares
-/// take no memory.
+/// A processor's only access to the shared machine. It keeps a receipt of each of its calls. For
+/// the proof it also holds its shares of three totals of the machine: receipts, records that seals
+/// handed out, and calls that found the history full. Shares take no memory; `handed` has the
+/// second count at run time.
 #[derive(Drop)]
 pub struct Seat<L: Job> {
     cpu: Cpu,
@@ -158,8 +158,8 @@ impl<L: Job> Seat<L> {
 }
 
 /// Called for its contract: if there are as many seats as processors, their counts add up to all
-/// records and to all sealed records, and the records reach the limit if a seat found the history
-/// full. Has no effect.
+/// records and to all sealed records. If a seat found the history full, the records reach the
+/// limit, or no serial is left. Has no effect.
 pub(crate) fn audit_all<L: Job>(locked: &mut Locked<L>, seats: &mut Vec<Seat<L>>)
     ensures locked { locked.new ≡ locked.old }
     ensures seats { seats.new.items ≡ seats.old.items }

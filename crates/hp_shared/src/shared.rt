@@ -81,7 +81,7 @@ impl<L: Job> Shared<L> {
         self.cpus
     }
 
-    /// Makes one turn of a seat under the lock, for which it may wait. Returns the serial and the
+    /// Makes one call for a seat under the lock, for which it may wait. Returns the serial and the
     /// reply.
     pub(crate) fn turn(
         &self,
@@ -112,7 +112,7 @@ impl<L: Job> Shared<L> {
             .turn(alloc, share, handed, told, cpu, event)
     }
 
-    /// Seals under the lock, for which it may wait.
+    /// Seals the machine under the lock, for which it may wait.
     pub(crate) fn seal(
         &self,
         rt: &impl Wait,

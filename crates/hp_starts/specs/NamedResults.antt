@@ -22,7 +22,8 @@ abbrev pub AreOfLinesBefore : (cpus : ℕ) → List Begin → List Line → (sou
 AreOfLinesBefore cpus begins lines sources cpu place receipts =
     after_lines cpus nothing_known (steps_before begins lines sources cpu place) receipts ≡ Some []
 
--- `call` is the call of the processor's line at index `source`, whose work is an event
+-- `call` is the call of the processor's line at index `source`, whose work is an event. It comes
+-- after the calls of the processor's lines before that line
 pub record IsCallOf (cpus : ℕ) (begins : List Begin) (lines : List Line) (sources : List (Option ℕ))
     (cpu source : ℕ) (receipts : List Receipt) (call : Receipt) : Type 0 where
   pub line : Line

@@ -1,5 +1,5 @@
--- The results of earlier lines. A line of a script may work on the operation that an earlier line
--- of this script began, or free the frame that such a line got.
+-- The results of earlier lines of a script. A line may work on the operation that an earlier line
+-- began, or free the kernel block that an earlier line got.
 use Rattle.std.specs.Prelude.{ℕ, ◌+◌, ◌-◌, ◌==◌, nat_lt, ◌&&◌, Bool, true, false, if◌then◌else◌, List, Option, Some, None, drop, take, map, option_and_then, slice_get}
 use Rattle.std.specs.List.{count_by}
 use Rattle.std.specs.Option.{option_flatten, option_map}
@@ -53,9 +53,9 @@ line_allocs cpu line = (line.cpu == cpu) && asked_allocs (asks.asked_by line.wor
 -- ---- work on a result
 
 -- the work on the operation that the line at index `place` began; `earlier` has the lines before
--- the line that does the work. The operation is the processor's latest if none of these after
--- `place` begins another, by a Begin or a plan. Otherwise its number is the number of operations
--- that the script began before it
+-- the line that does the work. The operation is the processor's latest if no line of `earlier`
+-- after `place` begins another, by a Begin or a plan. Otherwise its number is the number of
+-- operations that the script began before it
 abbrev pub on_begun : (cpu : ℕ) → (earlier : List Line) → (place : ℕ) → StepWork → OwnWork
 on_begun cpu earlier place w =
     if count_by (line_begins cpu) (drop (place + 1) earlier) == 0 then Latest w
@@ -73,8 +73,8 @@ asked_on cpu earlier place line (asks.event e) =
     then Some (Free (count_by (line_allocs cpu) (take place earlier))) else None)
 asked_on cpu earlier place line m = None
 
--- the work of the line at index `place` on the result of its source. `None` if it has no source, or if
--- the source is not an earlier line of this processor with such a result
+-- the work of the line at index `place` on the result of its source, which is another line. `None`
+-- if it has no source, or if the source is not an earlier line of this processor with such a result
 abbrev pub named_at : (cpu : ℕ) → List Line → (sources : List (Option ℕ)) → (place : ℕ) → asks.Meaning
     → Option OwnWork
 named_at cpu lines sources place m =
@@ -84,10 +84,12 @@ named_at cpu lines sources place m =
 
 -- ---- sources
 
--- the index of a source among the lines after the setup; `None` if it is in the setup
+-- the index of a source (the line whose result another line works on) among the lines after the
+-- setup; `None` if it is in the setup
 abbrev pub source_after : (setup source : ℕ) → Option ℕ
 source_after setup source = if nat_lt source setup then None else Some (source - setup)
 
--- the sources of the lines after the setup
+-- for each line after the setup, its source (the line whose result it works on), as an index among
+-- these lines
 abbrev pub sources_after : (setup : ℕ) → List (Option ℕ) → List (Option ℕ)
 sources_after setup sources = map (option_and_then (source_after setup)) (drop setup sources)

@@ -26,9 +26,9 @@ own_work (event.Commit op) = if op == 0 then Some Commit else None
 own_work (event.Cancel op) = if op == 0 then Some Cancel else None
 own_work e = None
 
--- an event as a step of a script. If it works on the result of an earlier line, `named` is this work.
--- Work on operation 0 is work on the operation that the processor began last, which is `op` unless its
--- script has begun one
+-- an event as a step of a script. If it works on the result of an earlier line, `named` is this
+-- work. Work on operation 0 is work on the operation that the processor began last. It is `op`, the
+-- last one before the scripts, unless the processor's script has begun one
 abbrev pub event_step : (op : ℕ) → (begun : Bool) → (named : Option OwnWork) → Event → step.Step
 event_step op begun (Some w) e = Own w
 event_step op begun None e =
@@ -43,7 +43,8 @@ explored op begun named (asks.not_taken fault) = None
 explored op begun named (asks.cat path) = None
 explored op begun named asks.seal = None
 
--- a line as a step of a processor's script; `None` if it is not one of the processor's lines
+-- a line as a step of a processor's script; `None` if it is not one of the processor's lines, or
+-- may not be in a script
 abbrev pub step_for : (cpu : ℕ) → (op : ℕ) → (begun : Bool) → (named : Option OwnWork) → Line
     → Option step.Step
 step_for cpu op begun named line =

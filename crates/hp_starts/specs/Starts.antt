@@ -37,8 +37,8 @@ pub record HasStart (s : ScenarioValue) (sources : List (Option ℕ)) (setup : �
   pub begun : IsStart s.layout (take setup s.lines) (drop setup s.lines) (sources_after setup sources)
       start scripts
 
--- either a later line may not be in a script, and the fault gives the first such line, or memory ran
--- out
+-- either a line after the setup may not be in a script, and the fault gives the first such line, or
+-- memory ran out
 abbrev pub HasNoStart : ScenarioValue → (setup : ℕ) → StartFault → Type 0
 HasNoStart s setup (NotForScript place why) = IsUnfitAfter setup place why s
 HasNoStart s setup OutOfMemory = Unit {0}

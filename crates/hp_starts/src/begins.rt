@@ -14,7 +14,7 @@ pub(crate) struct Begin {
     pub serial: Serial,
 }
 
-/// Appends the Begins among `records`.
+/// Appends the Begins among `records`, refused or not.
 pub(crate) fn note_begins(begins: &mut Vec<Begin>, records: &[Record]) -> Result<(), AllocError>
     ensures { OnOk result (begins.new.items ≡ begins.old.items ++ begins_in records.now) }
 {
@@ -29,7 +29,7 @@ pub(crate) fn note_begins(begins: &mut Vec<Begin>, records: &[Record]) -> Result
     Ok(())
 }
 
-/// Returns the serial of a processor's last Begin, or 0 if it made none.
+/// Returns the serial of the processor's last Begin in `begins`, or 0 if there is none.
 pub(crate) fn last_begun(cpu: Cpu, begins: &[Begin]) -> Serial
     ensures { result ≡ last_begun cpu begins.now }
 {

@@ -6,8 +6,8 @@ ghost use Rattle.hp_starts.specs.Checks.{AreFit, IsLineFault, IsUnfit};
 use crate::start_fault::StartFault;
 use hp_scenario::Line;
 
-/// Checks that every line may be in a script. The error names the first line that may not; `before`
-/// lines precede `lines`.
+/// Checks that every line may be in a script. The error names the first line that may not. `before`
+/// is the number of lines before `lines`.
 pub(crate) fn check_lines(cpus: u32, before: u64, lines: &[Line]) -> Result<(), StartFault>
     requires { before + length lines.now < 2 ^ 64 }
     ensures ok { OnOk result (AreFit cpus lines.now (length lines.now)) }
@@ -19,7 +19,7 @@ pub(crate) fn check_lines(cpus: u32, before: u64, lines: &[Line]) -> Result<(), 
     Ok(())
 }
 
-/// Checks that a line may be in a script.
+/// Checks that a line may be in a script. `place` is its number, from 1.
 fn check_line(cpus: u32, place: u64, line: &Line) -> Result<(), StartFault>
     ensures ok { OnOk result (unfit cpus line.now ≡ None) }
     ensures err { IfErr result (IsLineFault cpus place line.now) }

@@ -58,7 +58,8 @@ fn known_of(alloc: Global, cpus: u32, lines: &[Line], limit: u64) -> Result<HowM
     interleavings_of(alloc, &scripts, limit)
 }
 
-/// Returns the line that reports `known`, or an empty text if there is none.
+/// Returns the line that reports the number of interleavings, or an empty text if `known` is
+/// `None`.
 fn told_line(alloc: Global, known: Option<HowMany>, limit: u64) -> Result<String, AllocError>
     ensures { IfOk result (λ text. string_bytes text ≡ told_text limit known) }
 {
@@ -72,7 +73,7 @@ fn told_line(alloc: Global, known: Option<HowMany>, limit: u64) -> Result<String
     }
 }
 
-/// Writes the line that reports `known`.
+/// Writes the line that reports the number of interleavings, or that it is not known.
 fn write_known(out: &mut String, known: HowMany, limit: u64) -> Result<(), AllocError>
     ensures { OnOk result (string_bytes out.new ≡ string_bytes out.old ++ told_text limit (Some known)) }
 {

@@ -13,11 +13,12 @@ ghost use Rattle.hp_starts.specs.Results.{named_at};
 ghost use Rattle.hp_starts.specs.Scripts.{script_of};
 ghost use Rattle.hp_starts.specs.declared.begins.Begin.{Begin};
 
-/// In each interleaving a line with a name works on the result that the named line got there.
+/// In each interleaving, a line with a name works on the result that the named line got in this
+/// interleaving.
 ///
-/// After a schedule, if a processor has made its calls for all its lines before the one at `place`,
-/// its next call is the event of that line, with the result of the call that the processor made for
-/// the line's source in the place of the number.
+/// The line at `place` works on the result of the line at `source`. After a schedule, a processor
+/// has made its calls for exactly its lines before `place`. Then its next call is the event of the
+/// line at `place`, with the result of its call for the line at `source` in place of the number.
 pub fn names_are_results()
     ensures { (g : Setting) (schedule : List ℕ) (news : List Record) (begins : List Begin)
         (lines : List Line) (sources : List (Option ℕ)) (cpu place source : ℕ) (line : Line)

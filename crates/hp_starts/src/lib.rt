@@ -2,9 +2,9 @@
 //! lines.
 //!
 //! The first lines of a scenario are its setup, run in order on one machine as `hotplug serial`
-//! does. Each later line goes to the script of its processor. The crate owns which lines may be in
-//! a script, what step each becomes, which operation the number 0 names, and which steps work on the
-//! results of earlier lines. It searches nothing: hp_explore does.
+//! does. Each later line goes to the script of its processor. The crate defines which lines may be
+//! in a script, and what step each becomes. It also defines which operation the number 0 names, and
+//! which steps work on the results of earlier lines. It searches nothing: hp_explore does.
 //!
 //! Read specs/Scripts first, then specs/Results, specs/NamedResults (what a name means in every
 //! interleaving), specs/Setup, specs/Begins and specs/Starts.

@@ -15,8 +15,8 @@ use hp_schedules::{OwnWork, StepWork};
 use hp_units::{Cpu, Event, mark_of};
 use std::alloc::{AllocError, Global};
 
-/// Returns the sources of the lines after the setup, as indices of these lines. A source in the
-/// setup becomes `None`.
+/// Returns, for each line after the setup, its source: the line whose result it works on. A source
+/// is an index among the lines after the setup, and one in the setup becomes `None`.
 pub(crate) fn sources_after(
     alloc: Global,
     sources: &[Option<usize>],
@@ -31,7 +31,8 @@ pub(crate) fn sources_after(
     Ok(later)
 }
 
-/// Returns a source as an index among the lines after the setup, or `None` if it is in the setup.
+/// Returns a source (the line whose result another line works on) as an index among the lines after
+/// the setup. Returns `None` if there is no source, or if it is in the setup.
 fn place_after(source: Option<usize>, setup: u64) -> Option<usize>
     ensures { result ≡ option_and_then (source_after setup) source }
 {
@@ -47,11 +48,11 @@ fn place_after(source: Option<usize>, setup: u64) -> Option<usize>
     }
 }
 
-/// Returns the work of the line at `place` on the result of its source. `None` if it has no source,
-/// or if the source is not an earlier line of the processor that has such a result.
+/// Returns the work of the line at `place` on the result of its source, which is another line.
+/// Returns `None` if it has no source, or if the source is not an earlier line of the processor
+/// that has such a result.
 ///
-/// Fails as if out of memory if there are more than `u32::MAX` lines with results before the
-/// source.
+/// May fail as if out of memory if more than `u32::MAX` lines before `place` have results.
 pub(crate) fn named_at(
     cpu: Cpu,
     lines: &[Line],
@@ -72,7 +73,7 @@ pub(crate) fn named_at(
     }
 }
 
-/// Returns the source of the line at `place`, if it has one.
+/// Returns the source of the line at `place` (the line whose result it works on), if it has one.
 fn source_at(sources: &[Option<usize>], place: usize) -> Option<usize>
     ensures { result ≡ option_flatten (slice_get sources.now place) }
 {
@@ -82,8 +83,9 @@ fn source_at(sources: &[Option<usize>], place: usize) -> Option<usize>
     }
 }
 
-/// Returns a line's work on the result of the line at `place`, or `None` if the latter has no such
-/// result.
+/// Returns what `work` does with the result of `line`, or `None` if `line` has no result that it
+/// can use. `earlier` has the lines before the line with this work, and `line` has index `place`
+/// there.
 fn asked_on(
     cpu: Cpu,
     earlier: &[Line],
@@ -104,8 +106,9 @@ fn asked_on(
     }
 }
 
-/// Returns what an event does with the result of the line at `place`, or `None` if that line has no
-/// such result.
+/// Returns what an event does with the result of `line`, or `None` if `line` has no result that it
+/// can use. `earlier` has the lines before the line with this event, and `line` has index `place`
+/// there.
 fn on_result(
     cpu: Cpu,
     earlier: &[Line],
@@ -130,7 +133,8 @@ fn on_result(
     Ok(None)
 }
 
-/// Returns work on the operation that the line at `place` began.
+/// Returns work on the operation that the line at `place` of `earlier` began. `earlier` has the
+/// lines before the line that does the work.
 fn on_begun(cpu: Cpu, earlier: &[Line], place: usize, work: StepWork) -> Result<OwnWork, AllocError>
     requires { place < length earlier.now }
     ensures { IfOk result (λ own. own ≡ on_begun cpu earlier.now place work) }
@@ -155,7 +159,7 @@ fn begun_in(cpu: Cpu, lines: &[Line]) -> Result<u32, AllocError>
     number_of(count)
 }
 
-/// Returns how many blocks the processor asks for in these lines.
+/// Returns how many kernel blocks the processor asks for in these lines.
 fn allocs_in(cpu: Cpu, lines: &[Line]) -> Result<u32, AllocError>
     ensures { IfOk result (λ count. count ≡ count_by (line_allocs cpu) lines.now) }
 {
@@ -195,14 +199,14 @@ fn work_opens(work: &Work) -> bool
     }
 }
 
-/// Returns whether a line is the processor's and asks for a block.
+/// Returns whether a line is the processor's and asks for a kernel block.
 fn line_allocs(cpu: Cpu, line: &Line) -> bool
     ensures { result ≡ line_allocs cpu line.now }
 {
     line.cpu == cpu && work_allocs(&line.work)
 }
 
-/// Returns whether a line's work asks for a block.
+/// Returns whether a line's work asks for a kernel block.
 fn work_allocs(work: &Work) -> bool
     ensures { result ≡ asked_allocs (asked_by work.now) }
 {
@@ -212,7 +216,7 @@ fn work_allocs(work: &Work) -> bool
     }
 }
 
-/// Returns whether an event asks for a block for the kernel.
+/// Returns whether an event asks for a kernel block.
 fn is_alloc(event: &Event) -> bool
     ensures { result ≡ takes_frame event.now }
 {
@@ -226,7 +230,7 @@ fn is_free(event: &Event) -> bool
     matches!(event, Event::KernelFree { .. })
 }
 
-/// Returns the work that an event does on an operation, or `None` if it does none.
+/// Returns the work that an event does on an operation that has begun, or `None` if it does none.
 fn work_in(event: &Event) -> Option<StepWork>
     ensures { result ≡ work_in event.now }
 {

@@ -35,7 +35,8 @@ pub(crate) fn scripts_of(
     Ok(scripts)
 }
 
-/// Returns the script of a processor: its lines in order.
+/// Returns the script of a processor: its lines in order, without those that may not be in a
+/// script.
 fn script_of(
     alloc: Global,
     cpu: Cpu,
@@ -57,8 +58,8 @@ fn script_of(
     Ok(CallScript::new(steps))
 }
 
-/// Returns the line at `place` as a step of a processor's script, or `None` if it is not the
-/// processor's line.
+/// Returns the line at `place` as a step of a processor's script. Returns `None` if it is not the
+/// processor's line, or may not be in a script.
 fn step_for(
     alloc: Global,
     cpu: Cpu,
@@ -136,8 +137,8 @@ fn called(alloc: Global, op: Serial, has_begun: bool, event: &Event) -> Result<S
     }
 }
 
-/// Returns work on the operation that the processor began last: `op`, unless its script has begun
-/// one since.
+/// Returns work on the operation that the processor began last. It is `op`, the last one before the
+/// scripts, unless the processor's script has begun one.
 fn own_step(op: Serial, has_begun: bool, work: StepWork) -> Step
     ensures { result
         ≡ if has_begun then Step.Own (OwnWork.Latest work) else Step.Ask (step_work_of op work) }
@@ -169,7 +170,8 @@ fn carried(alloc: Global, plan: &Plan, turns: u32) -> Result<Step, AllocError>
     Ok(Step::Carry { plan, turns })
 }
 
-/// Returns the work that an event asks for on operation 0, or `None` if it asks for none.
+/// Returns the work that an event does on operation 0, or `None` if it works on no operation or on
+/// another.
 pub(crate) fn own_work(event: &Event) -> Option<StepWork>
     ensures { result ≡ own_work event.now }
 {

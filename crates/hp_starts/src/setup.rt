@@ -8,7 +8,8 @@ use hp_names::run_line;
 use hp_scenario::{Line, Work};
 use std::alloc::{AllocError, Global};
 
-/// Runs lines in order, and appends the Begins that their seals hand out.
+/// Runs lines in order. Before each seal, appends the Begins of the machine's history to `begins`,
+/// because the seal hands their records out.
 pub(crate) fn run_lines(
     alloc: Global,
     machine: &mut Machine,
@@ -25,7 +26,7 @@ pub(crate) fn run_lines(
     Ok(())
 }
 
-/// Appends the Begins that a seal is about to hand out; other work adds none.
+/// Appends all Begins of the machine's history, if the work is a seal. Other work adds none.
 fn note_sealed(begins: &mut Vec<Begin>, machine: &Machine, work: &Work) -> Result<(), AllocError>
     ensures { OnOk result
         (begins.new.items ≡ begins.old.items ++ begins_sealed machine.now work.now) }

@@ -15,7 +15,7 @@ use hp_schedules::CallScript;
 use hp_units::Layout;
 use std::alloc::{AllocError, Global};
 
-/// The start of a search.
+/// The start of a search: a machine, and the scripts of the calls that it will make.
 pub struct Start {
     /// The machine after the setup.
     pub machine: Machine,

@@ -39,7 +39,8 @@ pub fn unbegun_lines(
     Ok(found)
 }
 
-/// Appends the first unbegun line of `cpu`, if there is one.
+/// Appends the first script line of `cpu` that names operation 0 before `cpu` has begun an
+/// operation, if there is one.
 fn push_unbegun(
     found: &mut Vec<Unbegun>,
     cpu: Cpu,
@@ -56,7 +57,8 @@ fn push_unbegun(
     Ok(())
 }
 
-/// Returns the number of the first unbegun line of `cpu`, if there is one.
+/// Returns the number, from 1, of the first script line of `cpu` that names operation 0 before
+/// `cpu` has begun an operation, if there is one.
 fn unbegun_line(cpu: Cpu, setup: u64, lines: &[Line]) -> Option<u64>
     ensures { result ≡ unbegun_at cpu setup 0 lines.now }
 {

@@ -1,4 +1,5 @@
--- Numbers for the transcripts of processors.
+-- Numbers for the transcripts of processors. A transcript lists a processor's events and replies so
+-- far.
 use Rattle.std.specs.Prelude.{◌≡◌, ℕ, ◌<◌, List, [], ◌∷◌, ◌++◌, Some, length, slice_get}
 use Rattle.hp_units.specs.Receipts.{receipt_of}
 use Rattle.hp_units.specs.declared.replies.Receipt.{Receipt}

@@ -23,8 +23,9 @@ use Rattle.hp_schedules.specs.declared.tally.Ending.{Ending}
 abbrev pub counts_of : List Ending → List ℕ
 counts_of ends = map (λ e. e.count) ends
 
--- the walk had certain ends when it reached the place and the trail had `start` shares: they count the
--- part's schedules before the place
+-- when the walk reached the place, the ends `old` counted the part's schedules before it. The trail
+-- (the list of what was added to the ends) then had `start` shares. Since then the ends have only
+-- grown
 pub record IsPlaceReached (g : Setting) (part : PartValue) (news : List Record) (tally : TallyValue)
     (start : ℕ) : Type 0 where
   pub old : List Ending
@@ -39,13 +40,14 @@ pub record IsFrame (g : Setting) (part : PartValue) (news : List Record) (tally 
   pub within : frame.start ≤ length tally.trail
   pub reached : IsPlaceReached g part news tally frame.start
 
--- the ends grow, and the trail still gives all counts of the times when it had at most `start` shares
+-- the ends grow, and the trail (the list of what was added to them) still gives their counts at
+-- each time when it had at most `start` shares
 pub record GoOn (start : ℕ) (old new : TallyValue) : Type 0 where
   pub grown : Grow old.ends new.ends
   pub told : KeepsBefore start old new
 
--- all schedules from the place belong to one part and are walked; the shares have the counts since the
--- walk reached the place
+-- all schedules from the place belong to one part and are walked. The shares have, for each end,
+-- how many schedules were counted since the walk reached the place
 pub record IsPlaceWalked (g : Setting) (news : List Record) (ends : List Ending)
     (shares : List Share) : Type 0 where
   pub part : PartValue
@@ -60,8 +62,8 @@ pub record IsPlaceWalked (g : Setting) (news : List Record) (ends : List Ending)
 abbrev pub IsFresh : TallyValue → Level → Type 0
 IsFresh tally frame = frame ≡ record { next = 0; is_over = true; start = length tally.trail }
 
--- either each end's count grew by its shares and the trail still gives the earlier counts, or the
--- tally is unchanged and the place has a fresh level
+-- either each end's count grew by its shares, and the trail (the list of what was added) still
+-- gives the earlier counts; or the tally is unchanged and the place has a fresh level
 abbrev pub IsAdded : (old : TallyValue) → (shares : List Share) → (new : TallyValue) → Entry → Type 0
 IsAdded old shares new Counted =
     AddsShares old.ends shares new.ends × KeepsBefore (length old.trail) old new
@@ -76,8 +78,8 @@ IsEntered g news part old new (Open frame) =
     (new ≡ old) × (frame ≡ record { next = 0; is_over = true; start = length old.trail })
     × IsFrame g part news new frame
 
--- this treatment for each part to which all schedules from the place belong, and which is walked up to
--- the place
+-- the place is treated as IsEntered states, in the search of each part to which all schedules from
+-- the place belong, and which is walked up to the place
 abbrev pub IsEnteredWithin : Setting → List Record → (old new : TallyValue) → Entry → Type 0
 IsEnteredWithin g news old new entry =
     (part : PartValue) → AllOfPart (length g.scripts) part (schedule_of news)
@@ -110,7 +112,8 @@ pub record IsLeaving (g : Setting) (part : PartValue) (news : List Record) (curs
   pub memo_is : IsMemo g tally.ends memo
   pub way : IsOnWay g news memo
 
--- the search leaves a place that may be stored; the shares have the counts since its arrival there
+-- the search leaves a place that may be stored. The shares have, for each end, how many schedules
+-- were counted since the search reached the place
 pub record IsKeeping (g : Setting) (news : List Record) (cursors : List Cursor) (ends : List Ending)
     (shares : List Share) (memo : MemoValue) : Type 0 where
   pub played : plays g (schedule_of news) ≡ Some news

@@ -15,11 +15,11 @@ use Rattle.hp_states.specs.Interned.{IsMadeOf, lists_from}
 
 -- ---- lists of openings
 
--- the opening in an entry
+-- the operation in an entry, with the number of the state before its Begin
 abbrev pub opening_of : Entry → NumberedOpening
 opening_of e = record { op = e.op; memory = e.state }
 
--- the list with the entry's opening in front
+-- the list with the entry's operation in front
 abbrev pub in_front : Entry → List NumberedOpening → List NumberedOpening
 in_front e os = opening_of e ∷ os
 
@@ -27,7 +27,7 @@ in_front e os = opening_of e ∷ os
 abbrev pub entry_below : Entry → ℕ
 entry_below e = e.below
 
--- the empty list, and one per entry: an entry puts its opening in front of an earlier list
+-- the empty list, and one per entry: an entry puts its operation in front of an earlier list
 abbrev pub openings_of : List Entry → List (List NumberedOpening)
 openings_of entries = lists_from entry_below in_front entries
 
@@ -35,13 +35,15 @@ openings_of entries = lists_from entry_below in_front entries
 abbrev pub IsEntryOf : List (List NumberedOpening) → (number : ℕ) → Entry → Type 0
 IsEntryOf lists number entry = IsMadeOf entry_below in_front lists number entry
 
--- `number` belongs to the list `below` with this opening in front
+-- `number` belongs to the list `below` with the operation `op` in front; `state` is the number of
+-- the state before its Begin
 abbrev pub IsInFront : (old new : List (List NumberedOpening)) → (op state below number : ℕ) → Type 0
 IsInFront old new op state below number =
     (os : List NumberedOpening) → slice_get old below ≡ Some os
     → slice_get new number ≡ Some (record { op = op; memory = state } ∷ os)
 
--- either `number` is None, or it belongs to the list `was` with the opening of `op` and `from` in front
+-- either `number` is None, or it belongs to the list `was` with the operation `op` in front; `from`
+-- is the number of the state before its Begin
 abbrev pub IsBegun : (old new : List (List NumberedOpening)) → (op : ℕ)
     → (from was number : Option ℕ) → Type 0
 IsBegun old new op from was None = Unit {0}
@@ -73,8 +75,8 @@ IsStateAt p g codes news None = Unit {0}
 IsStateAt p g codes news (Some n) =
     IsCoded g.layout codes n (renumbered p (value_of g.layout g.base (g.start ++ news)))
 
--- the number belongs to the openings after the new records; None means that it is unknown. `p`
--- renumbers the operations
+-- the number belongs to the list of operations that a Cancel can undo after the new records; None
+-- means that it is unknown. `p` renumbers the operations
 abbrev pub IsNumbered : (p : ℕ → ℕ) → Setting → (codes : List (List ℕ)) → List (List NumberedOpening)
     → (news : List Record) → Option ℕ → Type 0
 IsNumbered p g codes lists news None = Unit {0}

@@ -13,7 +13,8 @@ abbrev pub memory_at : Setting → List Record → MemoryValue
 memory_at g news =
     record { layout = g.layout; state = value_of g.layout g.base (g.start ++ news) }
 
--- the steps at the place after the new records, without deltas to undo
+-- the state at the place after the new records, with these records and without deltas (changes
+-- noted for undoing)
 abbrev pub standing : Setting → List Record → StepsValue
 standing g news = record {
   layout = g.layout;

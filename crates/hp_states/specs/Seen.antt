@@ -49,8 +49,8 @@ pub record MemoValue : Type 0 where
   pub key : List ℕ
   pub standing : StandingValue
 
--- `key` and `shares` belong to a place, whose shares are right for these ends. The history has room for
--- all calls from the place on
+-- `key` is the key of a place, and `shares` have the number of schedules that continue from it to
+-- each of these ends. The history has room for all calls from the place on
 pub record IsRow (g : Setting) (ends : List Ending) (s : StandingValue) (key : List ℕ)
     (shares : List Share) : Type 0 where
   pub seen : SeenValue

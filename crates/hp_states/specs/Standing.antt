@@ -15,7 +15,7 @@ pub record StandingValue : Type 0 where
   pub stops : StopsValue
   pub exchanged : ExchangesValue
 
--- each operation is numbered by its own number, wherever a walk is
+-- the numbering of operations that a walk uses: twice the operation's own number, at every place
 abbrev pub plainly : List Record → ℕ → ℕ
 plainly news op = number_of 0 [] op
 
@@ -41,8 +41,8 @@ pub record IsPart (s : StandingValue) (cpu : ℕ) (news : List Record) (key : Li
   pub exchanged : IsExchanged s.exchanged.chains cpu news number
   pub second : slice_get key (2 * cpu + 3) ≡ Some (own_operation (receipts_of cpu news))
 
--- the beginning of a key: the numbers of the state and of the openings, and the parts of the processors
--- below `cpus`
+-- the beginning of a key: the numbers of the state and of the list of operations that a Cancel can
+-- undo, and the parts of the processors below `cpus`
 pub record IsBegunKey (s : StandingValue) (news : List Record) (state openings cpus : ℕ)
     (key : List ℕ) : Type 0 where
   pub long : length key ≡ 2 * cpus + 2
@@ -55,8 +55,8 @@ abbrev pub AddsParts : StandingValue → (news : List Record) → (cpus : ℕ) �
 AddsParts s news cpus old new =
     (state openings : ℕ) → IsBegunKey s news state openings 0 old → IsBegunKey s news state openings cpus new
 
--- a key of the place after the new records: the numbers of the state and of the openings there, and a
--- part for each processor with a script
+-- a key of the place after the new records: the numbers of the state and of the list of operations
+-- that a Cancel can undo there, and a part for each processor with a script
 pub record IsKey (g : Setting) (s : StandingValue) (news : List Record) (key : List ℕ) : Type 0 where
   pub state : ℕ
   pub openings : ℕ

@@ -1,5 +1,5 @@
--- The numbers of the places that a walk came through: the number of each place's state, and the number
--- of its openings.
+-- The numbers of the places that a walk came through: one for each place's state, and one for its
+-- list of openings (operations that a Cancel can undo).
 use Rattle.std.specs.Prelude.{◌≡◌, ℕ, List, [], ◌∷◌, ◌++◌, Some, reverse}
 use Rattle.hp_states.specs.Codes.{KeepCodes}
 use Rattle.hp_units.specs.declared.replies.Record.{Record}
@@ -11,21 +11,23 @@ use Rattle.hp_schedules.specs.declared.changes.Change.TheVariants.{Ends}
 use Rattle.hp_schedules.specs.Schedules.{Setting}
 use Rattle.hp_states.specs.declared.stops.Stop.{Stop}
 
--- the meaning of each number of a state and of a list of openings, the numbers of the current place,
--- and the numbers of the places before it on the path
+-- what each number of a state, and each number of a list of operations that a Cancel can undo,
+-- means. Then the numbers of the current place, and of the places before it on the path
 pub record StopsValue : Type 0 where
   pub codes : List (List ℕ)
   pub lists : List (List NumberedOpening)
   pub here : Stop
   pub before : List Stop
 
--- a numbering of operations at each place. It gives no two operations the same number, and changes only
--- after a record that leaves nothing for a Cancel to take back
+-- a numbering of operations at each place. It gives no two operations the same number, and changes
+-- only after a record with the change `Ends`, which empties the list of operations that a Cancel
+-- can undo
 pub record IsNumbering (at : List Record → ℕ → ℕ) : Type 0 where
   pub differ : (news : List Record) → IsOneToOne (at news)
   pub steady : (news : List Record) (r : Record) → (change_of r ≡ Ends → ⊥) → at (news ++ r ∷ []) ≡ at news
 
--- the numbers of the places that the new records lead through, latest place first
+-- the numbers, as far as they are known, of the places that the new records lead through, latest
+-- place first
 abbrev pub AreStops : (at : List Record → ℕ → ℕ) → Setting → (codes : List (List ℕ))
     → List (List NumberedOpening) → (news : List Record) → List Stop → Type 0
 AreStops at g codes lists news [] = Unit {0}
@@ -38,8 +40,8 @@ AreStops at g codes lists news (stop ∷ stops) =
 abbrev pub AreStopsAt : (at : List Record → ℕ → ℕ) → Setting → (news : List Record) → StopsValue → Type 0
 AreStopsAt at g news s = AreStops at g s.codes s.lists news (s.here ∷ reverse s.before)
 
--- `state` and `openings` are the numbers of the state after the new records and of the openings there;
--- `p` renumbers the operations
+-- `state` is the number of the state after the new records, and `openings` that of the list of
+-- operations that a Cancel can undo there; `p` renumbers the operations
 abbrev pub AreNumbersAt : (p : ℕ → ℕ) → Setting → (news : List Record) → StopsValue → (state openings : ℕ)
     → Type 0
 AreNumbersAt p g news s state openings =

@@ -13,7 +13,7 @@ use Rattle.hp_schedules.specs.Parts.{ComesTo, EndsInPart, IsOfPart, PartValue}
 use Rattle.hp_schedules.specs.Schedules.{EndsWith, Setting, next_call, plays, schedule_of}
 use Rattle.hp_states.specs.Rooms.{HasNoRoom}
 
--- a schedule of the scripts leads to these steps: to their records, and to their state
+-- a schedule of the scripts leads to this state, by these records
 pub record IsAt (g : Setting) (p : StepsValue) : Type 0 where
   pub layout : p.layout ≡ g.layout
   pub played : plays g (schedule_of p.records) ≡ Some p.records
@@ -35,8 +35,8 @@ HasRoomBefore g place = (s : List ℕ) (h : HasNoRoom g s) → IsBefore (s ++ h.
 abbrev pub HasRoomFrom : Setting → List ℕ → Type 0
 HasRoomFrom g place = (s : List ℕ) → HasNoRoom g s → Extends s place → ⊥
 
--- everything before the place is walked: the schedules are counted, the ends are in the order of their
--- first schedules, and the history has room for each call
+-- everything before the place is walked: the schedules before it are counted, the ends are in the
+-- order of their first schedules, and the history has room for each call before the place
 pub record IsWalkedBefore (g : Setting) (place : List ℕ) (ends : List Ending) : Type 0 where
   pub counted : AreCounted (Before g place) ends
   pub ordered : AreInOrder ends

@@ -65,8 +65,9 @@ pub fn arrive<W: Watch>(
     )
 }
 
-/// Decides the same for a place from which only schedules of one part continue: adds the counts of
-/// an equivalent place, if one is stored.
+/// Decides how to treat a place from which only schedules of one part continue. Adds the counts of
+/// an equivalent place, if one is stored and the limit leaves room for them; otherwise the place
+/// has to be walked. Once the search has stopped, it always has to be walked.
 fn enter<W: Watch>(
     alloc: Global,
     memory: &Memory,
@@ -150,7 +151,7 @@ pub fn note<W: Watch>(
 }
 
 /// Sums up what was counted since the walk reached the place, which is now fully walked. Stores the
-/// sums if only schedules of the part continue from there.
+/// sums if only schedules of the part continue from there and the place has a key.
 pub fn leave(
     records: &[Record],
     positions: &Positions,

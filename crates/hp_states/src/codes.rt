@@ -50,9 +50,10 @@ impl Codes {
         }
     }
 
-    /// Returns the number of the memory's state, and adds the state if it is not found. Operations
-    /// have the numbers of [`number_of`](hp_renumbering::number_of) in it. So two states have the
-    /// same number if they differ only in the operations of these processors.
+    /// Returns the number of the memory's state, and adds the state if it is not found. In the
+    /// stored state, operations have the numbers of [`number_of`](hp_renumbering::number_of). So
+    /// two states that differ only in the numbers of the operations in `latest` nearly always share
+    /// a number.
     ///
     /// If memory runs out, all earlier numbers still mean the same states.
     pub fn number_of(

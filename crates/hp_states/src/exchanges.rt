@@ -23,7 +23,8 @@ pub(crate) struct Exchange {
 
 /// Transcripts by number. Number 0 is the empty transcript, and each entry adds one.
 ///
-/// `latest` maps a hash to the newest transcript that has it.
+/// `latest` maps a hash to the newest transcript that has it, unless memory ran out when a later
+/// one was added.
 pub(crate) struct Chains {
     entries: Vec<Exchange>,
     latest: IndexMap<u64, usize>,
@@ -184,7 +185,7 @@ impl Exchanges {
         self.here.as_slice()
     }
 
-    /// Adds a call of processor `cpu`.
+    /// Adds a call of processor `cpu` to its transcript, if it has one.
     pub fn go_on(&mut self, alloc: Global, cpu: Cpu, latest: &Record) -> Result<(), AllocError>
         requires { latest.now.cpu ≡ cpu }
         ensures kept { KeepNumbers self.old.chains self.new.chains }
@@ -201,7 +202,7 @@ impl Exchanges {
         Ok(())
     }
 
-    /// Takes back the latest call of processor `cpu`.
+    /// Takes the latest call of processor `cpu` off its transcript, if it has one.
     pub fn go_back(&mut self, cpu: Cpu)
         ensures same { self.new.chains ≡ self.old.chains }
         ensures back { (g : Setting) (news : List NewRecord) (r : NewRecord) → r.cpu ≡ cpu

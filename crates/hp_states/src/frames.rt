@@ -17,9 +17,9 @@ pub struct Level {
 /// How a place just reached was treated.
 #[derive(Clone, Copy, Drop)]
 pub enum Entry {
-    /// Its schedules are counted, or belong to another part.
+    /// The place's schedules are counted, or belong to another part.
     Counted,
-    /// It is to be walked.
+    /// The place is to be walked.
     Open(Level),
 }
 

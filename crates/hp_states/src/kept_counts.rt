@@ -10,7 +10,9 @@ ghost use Rattle.hp_schedules.specs.declared.tally.Ending.{Ending};
 ghost use Rattle.hp_states.specs.Seen.{IsSeen, SeenValue};
 ghost use Rattle.hp_states.specs.Walks.{Before, Through};
 
-/// The counts stored for a walked place are right for any equivalent place.
+/// If `is_closed` holds for a history, no later Cancel can drop a step of it. If `are_mergeable`
+/// holds for the scripts, the counts stored for a walked place are right for each place whose
+/// records are alike (`AreAlike`).
 pub fn kept_counts_are_added()
     ensures closed { (h : List Record) → is_closed h ≡ true → IsClosed (net_of h) }
     ensures merged { (g : Setting) (q : List ℕ) (k : List Record) (seen : SeenValue) (old new : List Ending)

@@ -9,10 +9,10 @@ use indexmap::IndexMap;
 use std::alloc::{AllocError, Global};
 use std::marker::Model;
 
-/// Rows of numbers, stored one after another, with the end of each.
+/// Keys, which are rows of numbers, stored one after another, with the end of each.
 ///
-/// `latest` maps a hash to the newest key that has it. The contract sees the table as the list of
-/// keys.
+/// `latest` maps a hash to the newest key that has it, unless memory ran out when a later one was
+/// added. The contract sees the table as the list of keys.
 pub struct KeyTable {
     numbers: Vec<u32>,
     ends: Vec<usize>,

@@ -63,8 +63,8 @@ impl Openings {
     }
 
     /// Returns the number of the list after a change, or `None` if the list is unknown. `was` and
-    /// `from` are the numbers of the list and of the state before it, and `number` is that of the
-    /// operation that it begins.
+    /// `from` are the numbers of the list and of the state before the change, and `number` is that
+    /// of the operation that the change begins.
     pub(crate) fn after(
         &mut self,
         was: Option<usize>,
@@ -125,7 +125,8 @@ impl Openings {
         Ok(number)
     }
 
-    /// Returns the number of that list if it is the newest with its hash.
+    /// Returns the number of the list `below` with the operation `op` in front, if it is the newest
+    /// list with the hash `digest`.
     fn found(&self, digest: u64, op: u64, state: usize, below: usize) -> Option<usize>
         ensures { IfSome result (IsInFront self.now self.now op state below) }
     {
@@ -142,8 +143,9 @@ impl Openings {
         }
     }
 
-    /// Returns the number after an operation's own work: the same list if the operation is first in
-    /// it, otherwise the empty list.
+    /// Returns the number of the list after a drain or a migration for the operation `worked`: the
+    /// list `was` if the operation is first in it, otherwise the empty list. Returns `None` if
+    /// `was` is unknown.
     fn after_work(&self, was: Option<usize>, worked: u64) -> Option<usize>
         ensures { IsMadeBy (after_work worked) self.now was result }
     {
@@ -160,8 +162,8 @@ impl Openings {
         }
     }
 
-    /// Returns the number after a Cancel: the rest of the list if the operation is first in it,
-    /// otherwise the empty list.
+    /// Returns the number of the list after a Cancel: the rest of the list `was` if the operation
+    /// is first in it, otherwise the empty list. Returns `None` if `was` is unknown.
     fn after_cancel(&self, was: Option<usize>, cancelled: u64) -> Option<usize>
         ensures { IsMadeBy (after_cancel cancelled) self.now was result }
     {

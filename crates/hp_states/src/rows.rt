@@ -1,4 +1,4 @@
-//! Rows of shares in one buffer.
+//! Rows of `Share`s (how many schedules continue from a place to an end) in one buffer.
 ghost use Rattle.std.specs.Prelude.{◌≡◌, ◌<◌, ◌≤◌, ◌++◌, ◌∷◌, [], IfNone, IfSome, OnErr, OnOk, Some, length, slice_get};
 
 use crate::texts::start_of;
@@ -6,7 +6,8 @@ use hp_schedules::Share;
 use std::alloc::{AllocError, Global};
 use std::marker::Model;
 
-/// Rows of shares, stored in one buffer. The model is the list of rows.
+/// Rows of `Share`s, which count the schedules from a place to each end, all in one buffer. The
+/// model is the list of rows.
 pub struct Rows {
     shares: Vec<Share>,
     ends: Vec<usize>,

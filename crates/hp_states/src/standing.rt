@@ -17,7 +17,8 @@ use hp_units::{Cpu, Record, Serial};
 use std::alloc::{AllocError, Global};
 use std::marker::Model;
 
-/// The number of no operation. Each operation is numbered by its own number above it.
+/// The number of no operation. With it as `fixed`, and without latest operations, `number_of` gives
+/// each operation twice its own number.
 const NO_OPERATION: Serial = Serial(0);
 
 /// The numbers of the place where a walk is, of the places before it, and of the transcripts.
@@ -69,7 +70,7 @@ impl Standing {
         })
     }
 
-    /// Moves to the place after a call. Its state has no number yet.
+    /// Moves to the place after the call of `latest`. The state at the new place has no number yet.
     pub(crate) fn go_on(&mut self, alloc: Global, latest: &Record) -> Result<(), AllocError>
         requires { (g : Setting) × (news : List NewRecord) × IsStanding g news self.old }
         ensures kept { KeepMeanings self.old self.new }

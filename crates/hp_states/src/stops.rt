@@ -21,8 +21,8 @@ use hp_units::{Record, Serial};
 use std::alloc::{AllocError, Global};
 use std::marker::Model;
 
-/// A place on the path: the numbers of its cancellable operations and of its state, as far as
-/// known.
+/// A place on the path: one number for its list of cancellable operations, and one for its state.
+/// Each is `None` while it is not known.
 #[derive(Clone, Copy, Drop)]
 pub(crate) struct Stop {
     openings: Option<usize>,
@@ -94,8 +94,8 @@ impl Stops {
         }
     }
 
-    /// Moves to the place after a call. Its state has no number yet. `fixed` and `latest` number
-    /// the operations at the place before the call, as [`number_of`] does.
+    /// Moves to the place after a call. The state at the new place has no number yet. `fixed` and
+    /// `latest` number the operations at the place before the call, as [`number_of`] does.
     pub fn go_on(
         &mut self,
         call: &Record,
@@ -157,8 +157,8 @@ impl Stops {
         self.codes.size()
     }
 
-    /// Appends the number of the state and that of the cancellable operations, and returns whether
-    /// both are known and fit 32 bits. If not, what is appended is unspecified.
+    /// Appends the number of the state and that of the list of cancellable operations, and returns
+    /// whether both are known and fit 32 bits. If not, what is appended is unspecified.
     pub fn push_numbers(&self, numbers: &mut Vec<u32>) -> Result<bool, AllocError>
         ensures { IfOk result (λ has. has ≡ true → (state : ℕ) × (openings : ℕ)
             × (numbers.new.items ≡ numbers.old.items ++ state ∷ openings ∷ [])
@@ -184,8 +184,9 @@ fn first_number(is_closed: bool) -> Option<usize>
     if is_closed { Some(0) } else { None }
 }
 
-/// Returns the number of the operations that a Cancel can take back after a call, or `None` if they
-/// are unknown, or if the number of an operation is 2^64 or greater. `was` is the place before it.
+/// Returns the number of the list of operations that a Cancel can take back after a call. Returns
+/// `None` if the list is unknown, or if the number of an operation is 2^64 or greater. `was` is the
+/// place before the call.
 fn openings_after(
     openings: &mut Openings,
     was: Stop,
@@ -229,7 +230,8 @@ fn numbered(change: Change, fixed: Serial, latest: &[Serial]) -> Option<Change>
     }
 }
 
-/// Appends two numbers and returns whether they fit. If not, the contents are unspecified.
+/// Appends two numbers and returns whether both fit 32 bits. If not, the contents of `numbers` are
+/// unspecified.
 pub(crate) fn push_two(numbers: &mut Vec<u32>, first: u64, second: u64) -> Result<bool, AllocError>
     ensures { IfOk result (λ fit. fit ≡ true
         → numbers.new.items ≡ numbers.old.items ++ first ∷ second ∷ []) }

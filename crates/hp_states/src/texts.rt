@@ -14,7 +14,8 @@ pub(crate) const TABLE_BYTES: u64 = 64;
 
 /// Byte strings in one buffer, with the end of each.
 ///
-/// `latest` maps a hash to the newest string that has it.
+/// `latest` maps a hash to the newest string that has it, unless memory ran out when a later one
+/// was added.
 pub(crate) struct Texts {
     bytes: Vec<u8>,
     ends: Vec<usize>,

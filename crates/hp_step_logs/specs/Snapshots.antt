@@ -21,7 +21,8 @@ holder_by None None = Nobody
 abbrev pub holder_of : Memory → Frame → FrameHolder
 holder_of s frame = holder_by (kernel_order s frame) (page_at s.pages frame)
 
--- the kernel's block that starts there, the page that is there, and the piece
+-- the parts of a holder: the order of the kernel's block, the page, and the piece (frames that are
+-- in use together)
 abbrev pub kernel_in : FrameHolder → Option Order
 kernel_in Nobody = None
 kernel_in (Kernel order) = Some order

@@ -11,7 +11,7 @@ phase_seen (PhaseGoingOnline zone) = GoingOnline zone
 phase_seen (PhaseOnline zone) = Online zone
 phase_seen (PhaseGoingOffline zone) = GoingOffline zone
 
--- the events of a turn; `None` if it goes through offline
+-- the events of a turn, which is a change of a block's phase; `None` if it goes through offline
 abbrev pub turn_events : Block → Turn → Option (List LogEvent)
 turn_events block Stays = Some []
 turn_events block ComesOnline = Some (OnlineEnds block true ∷ [])
@@ -19,7 +19,7 @@ turn_events block BeginsOffline = Some (OfflineBegins block ∷ [])
 turn_events block StaysOnline = Some (OfflineEnds block false ∷ [])
 turn_events block ThroughOffline = None
 
--- a block in this phase goes offline on its way to offline
+-- the phase is not offline, so a block in it has to go offline first
 abbrev pub goes_offline : BlockPhase → Bool
 goes_offline Offline = false
 goes_offline (GoingOnline zone) = true

@@ -44,7 +44,8 @@ impl FrameHolder {
         }
     }
 
-    /// Returns whether both have the same number of frames, and both or neither can move.
+    /// Returns whether memory in use starts at both frames, with the same number of frames, and
+    /// both or neither can move.
     pub(crate) fn has_same_piece(self, other: FrameHolder) -> bool
         ensures { result ≡ same_piece (piece_in self) (piece_in other) }
     {
@@ -87,7 +88,7 @@ impl FrameHolder {
     }
 }
 
-/// Adds the event that the memory that starts at a frame comes back.
+/// Adds the free of the memory that starts at a frame; nothing if `holder` is `Nobody`.
 pub(crate) fn push_free(
     log: &mut Vec<LogEvent>,
     frame: Frame,
@@ -108,7 +109,7 @@ pub(crate) fn push_free(
     }
 }
 
-/// Adds the event that the memory that starts at a frame is handed out.
+/// Adds the alloc of the memory that starts at a frame; nothing if `holder` is `Nobody`.
 pub(crate) fn push_alloc(
     log: &mut Vec<LogEvent>,
     frame: Frame,

@@ -1,9 +1,9 @@
 //! The log of a step of the machine, from the states before and after it.
 //!
-//! The crate owns `Snapshot`, which holds what a log depends on in one state, the function that
-//! makes the events between two of them, and the lines of JSON that the judge of logs reads.
-//! specs/Logs of hp_lawful defines the log of a step. The crate knows nothing of machines or
-//! scenarios. Read specs/Snapshots first.
+//! The crate owns `Snapshot`, which holds what a log depends on in one state. It also owns the
+//! function that makes the events between two snapshots, and the lines of JSON that the judge of
+//! logs reads. specs/Logs of hp_lawful defines the log of a step. The crate knows nothing of
+//! machines or scenarios. Read specs/Snapshots first.
 #![tactic(auto)]
 
 mod events;

@@ -30,7 +30,7 @@ pub(crate) enum Turn {
     BeginsOffline,
     /// By an offline that fails.
     StaysOnline,
-    /// Through offline.
+    /// It goes offline, unless it is offline already, and from there into the other phase.
     ThroughOffline,
 }
 

@@ -80,7 +80,7 @@ fn push_freed(
     push_free(log, frame, before.holder(frame))
 }
 
-/// Adds the events of all memory blocks.
+/// Adds the starts and ends of onlines and offlines of all memory blocks.
 fn push_block_events(
     log: &mut Vec<LogEvent>,
     layout: &Layout,
@@ -131,8 +131,8 @@ fn push_allocated(
     push_alloc(log, frame, after.holder(frame))
 }
 
-/// Returns whether the piece that starts at a frame stays in use: it is the same before and after,
-/// and its memory block does not go offline in between.
+/// Returns whether the piece that starts at a frame stays in use: it has the same order and
+/// mobility before and after, and its memory block does not go offline in between.
 fn stays(layout: &Layout, before: &Snapshot, after: &Snapshot, frame: Frame) -> bool
     requires { frame < frame_count layout.now }
     ensures { (s t : Memory) → Shows layout.now s before.now → Shows layout.now t after.now
@@ -145,7 +145,8 @@ fn stays(layout: &Layout, before: &Snapshot, after: &Snapshot, frame: Frame) -> 
     !before.phase(block).goes_offline(after.phase(block))
 }
 
-/// Returns the move that a log is, if the only change is that one page is at another frame.
+/// Returns the move that takes the place of a log, if the only change is that one page is at
+/// another frame.
 fn found_move(before: &Snapshot, after: &Snapshot, log: &[LogEvent]) -> Option<LogEvent>
     ensures { (l : LayoutParts) (s t : Memory) → Shows l s before.now → Shows l t after.now
         → with_move s t log.now ≡ option_map_or (λ event. event ∷ []) result log.now }
@@ -158,7 +159,8 @@ fn found_move(before: &Snapshot, after: &Snapshot, log: &[LogEvent]) -> Option<L
     move_of_page(before, after, from, to)
 }
 
-/// Returns the move of a page from one frame to another, if it is the same page.
+/// Returns the move from one frame to the other, if the same page was at the first and is at the
+/// second, and the frames differ.
 fn move_of_page(before: &Snapshot, after: &Snapshot, from: Frame, to: Frame) -> Option<LogEvent>
     ensures { result
         ≡ page_move (page_in (holder_at before.now from)) (page_in (holder_at after.now to)) from to }
@@ -170,7 +172,7 @@ fn move_of_page(before: &Snapshot, after: &Snapshot, from: Frame, to: Frame) -> 
     }
 }
 
-/// Returns the frame of the free of one frame.
+/// Returns the frame if the event is a free of a single frame.
 fn single_free(event: &LogEvent) -> Option<Frame>
     ensures { result ≡ single_free event.now }
 {
@@ -180,7 +182,7 @@ fn single_free(event: &LogEvent) -> Option<Frame>
     }
 }
 
-/// Returns the frame of the alloc of one frame whose page can move.
+/// Returns the frame if the event is an alloc of a single frame whose page can move.
 fn movable_alloc(event: &LogEvent) -> Option<Frame>
     ensures { result ≡ movable_alloc event.now }
 {
@@ -194,7 +196,7 @@ fn movable_alloc(event: &LogEvent) -> Option<Frame>
     }
 }
 
-/// Returns whether both are pages, and the same.
+/// Returns whether both are the same page.
 fn is_same_page(page: Option<(Owner, Page)>, other: Option<(Owner, Page)>) -> bool
     ensures { result ≡ same_page page other }
 {

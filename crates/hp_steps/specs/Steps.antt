@@ -20,7 +20,7 @@ abbrev pub record_of_step : LayoutParts → Memory → (serial cpu : ℕ) → Ev
 record_of_step l s serial cpu event =
     record { serial = serial; cpu = cpu; event = event; reply = (step l s serial cpu event).reply }
 
--- one more record, and the deltas after the first `mark` lead back
+-- `new` has one more record than `old`, and its deltas after the first `mark` lead back to `old`
 pub record IsLater (old : StepsValue) (r : Record) (mark : ℕ) (new : StepsValue) : Type 0 where
   pub since : List Delta
   pub layout : new.layout ≡ old.layout

@@ -2,8 +2,8 @@
 //! first.
 //!
 //! `Steps` owns a memory with the records of its steps and the deltas that lead back over them. It
-//! keeps no history as a machine does: an UndoAfter or a Cancel is only its own step, and callers
-//! choose the serials.
+//! keeps no history as a machine does: an UndoAfter changes no state, a Cancel only releases, and
+//! callers choose the serials.
 //!
 //! Read specs/Steps first, then `steps`.
 #![tactic(auto)]

@@ -11,8 +11,8 @@ use hp_units::{Cpu, Event, Record, Serial};
 use std::alloc::{AllocError, Global};
 use std::marker::Model;
 
-/// A memory with the records of the steps that led to it, and the deltas of those that were made
-/// here.
+/// A memory with the records of the steps that led to it, and the deltas of those steps that `make`
+/// made.
 pub struct Steps {
     memory: Memory,
     tape: Tape,

@@ -30,7 +30,7 @@ impl From<AllocError> for ReadFault {
     }
 }
 
-/// Reads all bytes of a source, at most the limit.
+/// Reads all bytes of a source. Fails if there are more than `LIMIT`.
 pub fn read_all<R: Source>(alloc: Global, reader: &mut R) -> Result<Vec<u8>, ReadFault>
     requires { R.failures reader.old < 2 ^ 64 - 1 }
     ensures bytes { IfOk result (λ v. Consumes (R.remaining reader.old) (R.remaining reader.new) v.items) }

@@ -19,7 +19,8 @@ pub trait Source {
     /// How many calls failed.
     ghost failures: { Self → ℕ };
 
-    /// Reads some bytes; none only at the end.
+    /// Reads some bytes into `buffer`, and returns how many: 0 only at the end, or if `buffer` is
+    /// empty.
     fn read(&mut self, buffer: &mut [u8]) -> Result<usize, Failed>
         requires { failures self.old < 2 ^ 64 - 1 }
         ensures bound { ReadsAtMost result buffer.new }
@@ -36,7 +37,7 @@ pub trait Sink {
     /// How many calls failed.
     ghost failures: { Self → ℕ };
 
-    /// Writes some of the bytes; at least one, if there is one.
+    /// Writes some of the bytes, and returns how many: at least one, if there is one.
     fn write(&mut self, bytes: &[u8]) -> Result<usize, Failed>
         requires { failures self.old < 2 ^ 64 - 1 }
         ensures bound { WritesSome result bytes.now }

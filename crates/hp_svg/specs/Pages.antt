@@ -15,7 +15,7 @@ viewer_before = HEAD.now ++ STYLE.now ++ BODY.now
 unfoldable pub viewer_rules : List ℕ
 viewer_rules = MIDDLE.now ++ TRACE.now ++ WORDS.now
 
--- the viewer's code that draws them, and its end
+-- the viewer's code that draws the trace, and the end of the page
 unfoldable pub viewer_drawing : List ℕ
 viewer_drawing = MACHINE.now ++ PANELS.now ++ END.now
 

@@ -4,7 +4,7 @@ use Rattle.std.specs.List.{flat_map}
 use Rattle.hp_map.specs.Rounds.{IsJoinOf, RoundsValue, more_text}
 use Rattle.hp_map.specs.Rows.{RowValue, row_with}
 
--- a line about the rounds that are not shown
+-- a line about the rounds that are not shown; none if all are shown
 abbrev pub more_row : RoundsValue → List RowValue
 more_row r = if r.more == 0 then [] else row_with (more_text r) [] None [] ∷ []
 

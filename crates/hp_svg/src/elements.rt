@@ -79,7 +79,8 @@ fn write_letter(out: &mut String, x: u128, y: u128, mark: u8) -> Result<(), Allo
     )
 }
 
-/// Draws cells in the colour of their character, with the character on them if it fits.
+/// Draws cells in the colour of their character. Draws the character on them if it is a letter or a
+/// digit, and fits.
 pub(crate) fn write_cell(
     out: &mut String,
     x: u128,
@@ -97,7 +98,8 @@ pub(crate) fn write_cell(
     write_letter(out, x + 2, y + 9, mark)
 }
 
-/// Draws the mobility of pageblocks as a strip. Draws nothing if their memory block is not in use.
+/// Draws the mobility of pageblocks as a strip. Draws nothing for a bar between pageblocks, or if
+/// their memory block is not in use.
 pub(crate) fn write_strip(
     out: &mut String,
     x: u128,
@@ -112,7 +114,7 @@ pub(crate) fn write_strip(
     }
 }
 
-/// Returns the width of `count` cells of this width.
+/// Returns the width of `count` cells that are `cell` wide.
 pub(crate) fn cells_of(cell: u8, count: usize) -> u128
     ensures is { result ≡ cell * count }
     ensures low { result < 2 ^ 72 }

@@ -1,14 +1,14 @@
 //! A trace for a browser: its rows as one SVG picture, and the page that steps through its lines of
 //! JSON.
 //!
-//! The crate owns the picture: where each text and each cell of a row is, its colour, and the
-//! legend. It also owns the page's text around the lines, which viewer/build.py writes from the
+//! The crate defines the picture: where each text and each cell of a row is, its colour, and the
+//! legend. It also has the page's text around the lines, which viewer/build.py writes from the
 //! files of viewer/. It knows nothing of machines or scenarios.
 //!
 //! What picture and page look like is tested. It is proved that each row is in the list of rows to
-//! draw or is in a round that repeats the round right above (specs/Shown), that the runs of a picture
-//! cover each cell once, that no two characters share a colour, and that a page has the lines as
-//! they are.
+//! draw or is in a round that repeats the round right above (specs/Shown). It is proved that the
+//! runs of a picture cover each cell once, that no two characters share a colour, and that a page
+//! has the lines as they are.
 //!
 //! Read pictures.rt first, then rows.rt and runs.rt. page.rt needs none of these.
 #![tactic(auto)]

@@ -11,10 +11,10 @@ use std::alloc::{AllocError, Global};
 /// The characters that are written in white, because their colours are dark.
 const DARK: &str = "Kacfhijmpqsvxyz";
 
-/// The colour of each character that has a meaning: frames that are free, isolated, offline, absent
-/// or the kernel's, the lists of processors 0 to 9, and the owners a to z. The first seven owners
-/// have the colours of M. Okabe and K. Ito, "Color Universal Design", without black. The others
-/// have those of P. Tol, "Colour Schemes": muted, bright and vibrant.
+/// The colour of each character that has a meaning. These are frames that are free, isolated,
+/// offline, absent or the kernel's, the lists of processors 0 to 9, and the owners a to z. The
+/// first seven owners have the colours of M. Okabe and K. Ito, "Color Universal Design", without
+/// black. The others have those of P. Tol, "Colour Schemes": muted, bright and vibrant.
 pub const FILLS: &[(u8, &str)] = &[
     (b'.', "#7fbf7b"),
     (b':', "url(#isolated)"),

@@ -6,8 +6,8 @@ use crate::sheets::{Sheet, texts_height};
 use hp_map::{Move, RowPicture};
 use std::alloc::AllocError;
 
-/// Draws the line of a move; `above` and `here` are where the blocks begin in the row above and in
-/// the move's own row.
+/// Draws the line of a move. `above` and `here` are the y coordinates at which the memory blocks
+/// begin, in the last row above that has any, and in the move's own row.
 fn write_move(
     out: &mut String,
     sheet: Sheet,
@@ -28,8 +28,8 @@ fn write_move(
     write_path(out, left, top, to_left, to_top, "")
 }
 
-/// Returns where the blocks of a row begin, or `above` if it has none. `top` is where the row
-/// begins.
+/// Returns the y coordinate at which the memory blocks of a row begin, or `above` if the row has
+/// none. `top` is the y coordinate of the row.
 fn last_blocks(above: u128, top: u128, row: &RowPicture) -> u128
     requires low { top < 2 ^ 105 }
     requires near { above ≤ top + 28 }

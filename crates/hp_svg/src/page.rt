@@ -43,7 +43,7 @@ fn write_rules(page: &mut String) -> Result<(), AllocError>
     write_three(page, MIDDLE, TRACE, WORDS)
 }
 
-/// Writes the viewer's code that draws them, and its end.
+/// Writes the viewer's code that draws the trace, and the end of the page.
 #[tactic(auto, unfolding(crate::specs::Pages::viewer_drawing))]
 fn write_drawing(page: &mut String) -> Result<(), AllocError>
     ensures { OnOk result (string_bytes page.new ≡ string_bytes page.old ++ viewer_drawing) }

@@ -28,13 +28,14 @@ const HATCHING: &str = "<pattern id='isolated' width='4' height='4' patternUnits
 /// Rows are one below another. Only the first of equal rounds of a plan's calls is shown, and below
 /// it a line of text about the others. Each row has its texts and the heads of its memory blocks as
 /// text. It has a rectangle for each run of equal characters of a block's cells
-/// ([`runs_of`](crate::runs_of)), an outline with its order for each free block and each block of
-/// the kernel, and below the cells a strip for the mobility of pageblocks. A line goes from where a
-/// page was, in the row above, to where it moved.
+/// ([`runs_of`](crate::runs_of)). It has an outline for each free block and each block of the
+/// kernel, with the block's order if that is not 0 and has room. Below the cells is a strip for the
+/// mobility of pageblocks. A line goes from where a page was, in the row above, to where it moved.
 ///
-/// Above the rows are a legend and the numbers of the blocks and of frames: of each frame if its
-/// cell has room, otherwise of the first in each pageblock, or at least in each block. The legend
-/// has all characters that occur, outlines, strips and lines, and the owners' names.
+/// Above the rows are a legend and the numbers of the blocks and of frames. Each frame has its
+/// number if its cell has room, otherwise the first frame of each pageblock, or at least of each
+/// block. The legend has all characters that occur, outlines, strips and lines, and the owners'
+/// names.
 ///
 /// The first row with blocks decides how wide a block is and how many there are. Blocks that do not
 /// fit into 1,600 pixels continue below the first. Each row has all blocks or none; a row of text
@@ -233,8 +234,8 @@ fn write_blocks(
     Ok(())
 }
 
-/// Writes the number of each `step`th frame of a block above its cell, with a word before the
-/// first.
+/// Writes the number of each `step`th frame of a block above its cell, with the word `frame` before
+/// the first. If there is only one such number, writes the word and the number as one text.
 fn write_frame_numbers(
     out: &mut String,
     alloc: Global,

@@ -42,7 +42,7 @@ impl Run {
     }
 }
 
-/// Returns the runs that `picture_of` draws for cells, by rising places.
+/// Returns the runs of cells, from left to right, as `picture_of` draws them.
 pub fn runs_of(alloc: Global, cells: &[u8]) -> Result<Vec<Run>, AllocError>
     ensures { IfOk result (λ runs. Covers 0 runs.items cells.now) }
 {

@@ -23,7 +23,7 @@ pub(crate) fn shown_rows(
     Ok(shown)
 }
 
-/// Adds the rows that are shown of an entry.
+/// Adds the rows that are shown of an entry (a round and its repetitions, or a single row).
 fn show(shown: &mut Vec<RowPicture>, alloc: Global, entry: Rounds) -> Result<(), AllocError>
     ensures { OnOk result (shown.new.items ≡ shown.old.items ++ shown_of entry) }
 {

@@ -60,7 +60,8 @@ broken_at a b c bytes at first kept cut = grind (arith, append-nil)
 -- ---- replies
 
 replies_joined : {S : Type 0} (P : S → List ℕ → List ℕ → S → Type 0) (s mid new : S) (xs ys : List (List ℕ))
-    (x y : List ℕ) → AreReplies P s xs x mid → AreReplies P mid ys y new → AreReplies P s (xs ++ ys) (x ++ y) new
+    (x y : List ℕ)
+    → AreReplies P s xs x mid → AreReplies P mid ys y new → AreReplies P s (xs ++ ys) (x ++ y) new
 replies_joined {S} P s mid new [] ys x y p q = rw p.0 (subst (λ (m : S). AreReplies P m ys y new) p.1 q)
 replies_joined {S} P s mid new (l ∷ xs) ys x y p q = (
   p.0,

@@ -2,7 +2,7 @@
 use Rattle.std.specs.Prelude.{◌≡◌, ℕ, List, ◌∷◌, ◌++◌}
 use Rattle.hp_talk.specs.Talks.{IsWhole, newline}
 
--- the bytes before it, and those after it
+-- `front` is the bytes before the first newline, `after` those after it
 pub record IsCut (bytes front after : List ℕ) : Type 0 where
   pub is : bytes ≡ front ++ newline ∷ after
   pub whole : IsWhole front

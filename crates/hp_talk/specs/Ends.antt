@@ -6,13 +6,15 @@ use Rattle.hp_talk.specs.declared.hearing.Pause.TheVariants.{More}
 use Rattle.hp_talk.specs.declared.talking.TalkEnd.{TalkEnd}
 use Rattle.hp_talk.specs.declared.talking.TalkEnd.TheVariants as ends
 
--- lines, and a last one without a newline, unless that is empty
+-- the lines, and after them the last one, unless it is empty
 abbrev pub with_last : List (List ℕ) → (last : List ℕ) → List (List ℕ)
 with_last lines [] = lines
 with_last lines (b ∷ bs) = lines ++ (b ∷ bs) ∷ []
 
--- these are the lines that were replied to before a talk ended, of the bytes that were read: all; those
--- before a line `quit`; those before a read that failed; or, up to a write that failed, some
+-- the lines of `bytes`, which were read, that were replied to before the talk ended. At the end of
+-- the input these are all lines, and at a line `quit` those before it. After a read that failed, or
+-- after too many reads, they are all lines that end with a newline. After a write that failed, they
+-- are some of the lines, from the first on
 abbrev pub IsEndOf : TalkEnd → (bytes : List ℕ) → (lines : List (List ℕ)) → (left : Option (List ℕ)) → Type 0
 IsEndOf ends.Input bytes lines left =
     IsAtEnd left × (front : List (List ℕ)) × (last : List ℕ) × (bytes ≡ ended front ++ last)
@@ -33,7 +35,8 @@ IsSaid replies ends.Quit old lines new = Answers replies old lines new × (new.w
 IsSaid replies ends.ReadFailed old lines new = Answers replies old lines new × (new.waiting ≡ [])
 IsSaid replies ends.Worn old lines new = Answers replies old lines new × (new.waiting ≡ [])
 
--- a talk ended, after bytes that go on with a line
+-- a talk ended; `line` is the beginning of a line that was read earlier, and the bytes that were
+-- read since continue it
 pub record Ends {S : Type 0} (replies : S → List ℕ → List ℕ → S → Type 0) (how : TalkEnd) (old : Desk S)
     (line : List ℕ) (input left : Option (List ℕ)) (new : Desk S) : Type 0 where
   pub bytes : List ℕ
@@ -42,7 +45,7 @@ pub record Ends {S : Type 0} (replies : S → List ℕ → List ℕ → S → Ty
   pub end : IsEndOf how (line ++ bytes) lines left
   pub said : IsSaid replies how old lines new
 
--- a whole talk
+-- a whole talk, from its first read to its end
 abbrev pub IsTalk : {S : Type 0} → (replies : S → List ℕ → List ℕ → S → Type 0) → TalkEnd → (old new : S)
     → (input left before after : Option (List ℕ)) → Type 0
 IsTalk replies end old new input left before after =
@@ -50,28 +53,31 @@ IsTalk replies end old new input left before after =
 
 -- ---- on the way
 
--- a block was read and heard, and the replies sent; or the talk ended
+-- a block was read, its lines were replied to, and the replies were sent, or wait to be sent; or
+-- the talk ended
 abbrev pub HearsMore : {S : Type 0} → (replies : S → List ℕ → List ℕ → S → Type 0) → Option TalkEnd
     → (old : Desk S) → (line : List ℕ) → (input left : Option (List ℕ)) → (new : Desk S) → HeldValue → Type 0
 HearsMore replies None old line input left new held =
     (bytes : List ℕ) × Consumes input left bytes × Hears replies More old (line ++ bytes) new held
 HearsMore replies (Some end) old line input left new held = Ends replies end old line input left new
 
--- a block was heard, and the replies sent; or the talk ended
+-- the lines of a block were replied to, and the replies were sent, or wait to be sent; or the talk
+-- ended
 abbrev pub BlockHeard : {S : Type 0} → (replies : S → List ℕ → List ℕ → S → Type 0) → Option TalkEnd
     → (old : Desk S) → (line block : List ℕ) → (new : Desk S) → HeldValue → Type 0
 BlockHeard replies None old line block new held = Hears replies More old (line ++ block) new held
 BlockHeard replies (Some end) old line block new held =
     (input left : Option (List ℕ)) → Consumes input left block → Ends replies end old line input left new
 
--- the line that the input ends in was heard
+-- the talk ended with the input, whose last line, without a newline, is `line`
 abbrev pub LastHeard : {S : Type 0} → (replies : S → List ℕ → List ℕ → S → Type 0) → TalkEnd → (old : Desk S)
     → (line : List ℕ) → (new : Desk S) → Type 0
 LastHeard replies end old line new =
     (input left : Option (List ℕ)) → Consumes input left [] → IsAtEnd left
     → Ends replies end old line input left new
 
--- which calls failed
+-- if the talk goes on, no read failed; if it ended because a read failed, one did. The second
+-- definition is for writes
 abbrev pub IsReadCalm : Option TalkEnd → (failures now : ℕ) → Type 0
 IsReadCalm None failures now = now ≡ failures
 IsReadCalm (Some ends.ReadFailed) failures now = failures < now
@@ -82,7 +88,8 @@ IsWriteCalm None failures now = now ≡ failures
 IsWriteCalm (Some ends.WriteFailed) failures now = failures < now
 IsWriteCalm (Some end) failures now = ⊤
 
--- bytes were read and heard so far, and the replies sent
+-- so far bytes were read, their lines were replied to, and the replies were sent, or wait to be
+-- sent
 pub record GoesOn {S : Type 0} (replies : S → List ℕ → List ℕ → S → Type 0) (old : Desk S)
     (input left : Option (List ℕ)) (new : Desk S) (held : HeldValue) : Type 0 where
   pub bytes : List ℕ

@@ -27,14 +27,14 @@ IsWhole line = All (λ b. b ≢ newline) line
 abbrev pub quit : List ℕ
 quit = codes "quit"
 
--- a line that is replied to
+-- a line that is replied to: it has no newline in it, and is not `quit`
 pub record IsTurn (line : List ℕ) : Type 0 where
   pub whole : IsWhole line
   pub other : line ≢ quit
 
 -- ---- the beginning of a line
 
--- its bytes, or that there are too many of them
+-- the bytes of a line so far; or, if `is_long`, the line is too long to be kept
 pub record HeldValue : Type 0 where
   pub bytes : List ℕ
   pub is_long : Bool
@@ -46,13 +46,13 @@ abbrev pub HoldsIf : (is_long : Bool) → (bytes line : List ℕ) → Type 0
 HoldsIf true bytes line = line_limit < length line
 HoldsIf false bytes line = line ≡ bytes
 
--- this is the line so far
+-- `line` is the line so far; if it was too long to be kept, it may be any line that is too long
 abbrev pub Holds : HeldValue → (line : List ℕ) → Type 0
 Holds held line = HoldsIf held.is_long held.bytes line
 
 -- ---- replies
 
--- lines were replied to one after another, and this was written for them
+-- lines were replied to one after another, and `text` is the replies, joined
 abbrev pub AreReplies : {S : Type 0} → (replies : S → List ℕ → List ℕ → S → Type 0) → S
     → (lines : List (List ℕ)) → (text : List ℕ) → (new : S) → Type 0
 AreReplies replies s [] text new = (text ≡ []) × (new ≡ s)
@@ -68,14 +68,16 @@ RepliesTo replies s line before new after =
 
 -- ---- what is sent
 
--- after what waited before, a text was sent or waits
+-- `text` was added to `was`, which waited to be sent: a beginning of both was sent, and the rest
+-- waits
 pub record Sends (before : Option (List ℕ)) (was text : List ℕ) (after : Option (List ℕ)) (waits : List ℕ)
     : Type 0 where
   pub now : List ℕ
   pub appended : Appends before after now
   pub is : now ++ waits ≡ was ++ text
 
--- of what waited before and a text after it, a beginning was sent
+-- `text` was added to `was`, which waited to be sent: a beginning of both was sent, before a write
+-- failed
 pub record Breaks (before : Option (List ℕ)) (was text : List ℕ) (after : Option (List ℕ)) : Type 0 where
   pub now : List ℕ
   pub beyond : List ℕ
@@ -98,7 +100,7 @@ pub record Says {S : Type 0} (replies : S → List ℕ → List ℕ → S → Ty
   pub replied : replies old.talk line text new.talk
   pub sends : Sends old.sent old.waiting text new.sent new.waiting
 
--- a line was replied to, and a beginning of the reply was sent
+-- a line was replied to; of what waited and the reply, a beginning was sent before a write failed
 pub record Misses {S : Type 0} (replies : S → List ℕ → List ℕ → S → Type 0) (old : Desk S) (line : List ℕ)
     (new : Desk S) : Type 0 where
   pub text : List ℕ
@@ -113,7 +115,7 @@ pub record Answers {S : Type 0} (replies : S → List ℕ → List ℕ → S →
   pub replied : AreReplies replies old.talk lines text new.talk
   pub sends : Sends old.sent old.waiting text new.sent new.waiting
 
--- lines were replied to, and a beginning of the replies was sent
+-- lines were replied to; of what waited and the replies, a beginning was sent before a write failed
 pub record Fails {S : Type 0} (replies : S → List ℕ → List ℕ → S → Type 0) (old : Desk S)
     (lines : List (List ℕ)) (new : Desk S) : Type 0 where
   pub turns : All IsTurn lines
@@ -123,7 +125,8 @@ pub record Fails {S : Type 0} (replies : S → List ℕ → List ℕ → S → T
 
 -- ---- hearing
 
--- a whole line was heard
+-- a whole line was read: either it was replied to, or it is `quit`, or a write failed after the
+-- reply to it
 abbrev pub HearsLine : {S : Type 0} → (replies : S → List ℕ → List ℕ → S → Type 0) → Pause → (old : Desk S)
     → (line : List ℕ) → (new : Desk S) → HeldValue → Type 0
 HearsLine replies More old line new held =
@@ -131,7 +134,8 @@ HearsLine replies More old line new held =
 HearsLine replies Quit old line new held = (line ≡ quit) × (new ≡ old)
 HearsLine replies Broken old line new held = (line ≢ quit) × Misses replies old line new
 
--- bytes were heard: all of them; or up to a line that ends the talk; or up to a write that failed
+-- the lines of `bytes` were replied to: either all that end in it, and `held` has the beginning of
+-- the next; or those before a line `quit`; or some, before a write failed
 abbrev pub Hears : {S : Type 0} → (replies : S → List ℕ → List ℕ → S → Type 0) → Pause → (old : Desk S)
     → (bytes : List ℕ) → (new : Desk S) → HeldValue → Type 0
 Hears replies More old bytes new held =
@@ -144,7 +148,8 @@ Hears replies Broken old bytes new held =
     (lines : List (List ℕ)) × (beyond : List ℕ) × (bytes ≡ ended lines ++ beyond)
     × Fails replies old lines new
 
--- bytes were heard, up to these
+-- the lines of `bytes` that end before `rest` were replied to, and `held` has the beginning of the
+-- next
 pub record HearsTo {S : Type 0} (replies : S → List ℕ → List ℕ → S → Type 0) (old : Desk S)
     (bytes rest : List ℕ) (new : Desk S) (held : HeldValue) : Type 0 where
   pub lines : List (List ℕ)

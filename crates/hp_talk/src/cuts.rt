@@ -5,7 +5,7 @@ ghost use Rattle.hp_talk.specs.Talks.{IsWhole};
 
 use memchr::memchr;
 
-/// Returns the bytes before the first newline, and those after it.
+/// Returns the bytes before the first newline, and those after it, if there is a newline.
 pub(crate) fn cut(bytes: &[u8]) -> Option<(&[u8], &[u8])>
     ensures some { IfSome result (λ parts. IsCut bytes.now parts.0.now parts.1.now) }
     ensures none { IfNone result (IsWhole bytes.now) }

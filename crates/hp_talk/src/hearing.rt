@@ -10,7 +10,7 @@ use crate::sending::say;
 use hp_streams::{Failed, Sink};
 use std::alloc::Global;
 
-/// How the hearing of a block ended.
+/// Where the replies to the lines of a block ended.
 #[derive(Clone, Copy, Drop)]
 pub(crate) enum Pause {
     /// At the end of the block.
@@ -21,7 +21,8 @@ pub(crate) enum Pause {
     Broken,
 }
 
-/// Hears a block of bytes, which go on with the line that is held.
+/// Replies to each line that ends in `block`, and keeps the beginning of the next line in `held`.
+/// The first line begins with what `held` has. Stops at a line `quit`, and at a write that fails.
 pub(crate) fn hear<T: Talk, W: Sink>(
     talk: &mut T,
     alloc: Global,
@@ -48,7 +49,7 @@ pub(crate) fn hear<T: Talk, W: Sink>(
     Pause::More
 }
 
-/// Hears the end of a line, which goes on with what is held.
+/// Replies to a line, unless it is `quit`. Its beginning is in `held`, and `end` is the rest of it.
 pub(crate) fn hear_line<T: Talk, W: Sink>(
     talk: &mut T,
     alloc: Global,

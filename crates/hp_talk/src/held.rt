@@ -26,7 +26,7 @@ impl Model for Held {
 }
 
 impl Held {
-    /// Makes the beginning of a line, with room for all of it.
+    /// Makes an empty beginning of a line, with room for a line of the greatest length.
     pub(crate) fn new(alloc: Global) -> Result<Held, AllocError>
         ensures { IfOk result (λ held. held ≡ nothing_held) }
     {

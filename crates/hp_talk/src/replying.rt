@@ -17,14 +17,15 @@ pub trait Talk {
         ensures { result.now ≡ lost_text };
 
     /// Appends the reply to a line, which may be no UTF-8. After an error nothing was appended, and
-    /// the reply is that memory ran out.
+    /// the reply is the text of `lost`: memory ran out.
     fn reply(&mut self, alloc: Global, line: &[u8], out: &mut Vec<u8>) -> Result<(), AllocError>
         ensures ok { OnOk result
             (RepliesTo replies self.old line.now out.old.items self.new out.new.items) }
         ensures err { OnErr result (replies self.old line.now lost_text self.new) }
         ensures kept { OnErr result (out.new.items ≡ out.old.items) };
 
-    /// Does the same for a line that was not kept, since it has more than 65,536 bytes.
+    /// Appends the reply to a line that was not kept, since it has more than 65,536 bytes. After an
+    /// error nothing was appended, and the reply is the text of `lost`.
     fn reply_to_long(&mut self, alloc: Global, out: &mut Vec<u8>) -> Result<(), AllocError>
         ensures ok { OnOk result ((line : List ℕ) → line_limit < length line
             → RepliesTo replies self.old line out.old.items self.new out.new.items) }

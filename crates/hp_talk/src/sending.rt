@@ -8,7 +8,7 @@ use crate::replying::Talk;
 use hp_streams::{Failed, Sink};
 use std::alloc::{AllocError, Global};
 
-/// The number of bytes from which on what waits is sent before the next line.
+/// If at least this many bytes wait to be sent, they are sent before the next line is replied to.
 const MUCH: usize = 65_536;
 
 /// Sends bytes. If a call of the writer fails, a beginning of them was sent.
@@ -44,7 +44,7 @@ pub(crate) fn send<W: Sink>(writer: &mut W, out: &mut Vec<u8>) -> Result<(), Fai
     Ok(())
 }
 
-/// Sends what waits, if it is much.
+/// Sends what waits, if it is at least `MUCH` bytes.
 fn send_much<W: Sink>(writer: &mut W, out: &mut Vec<u8>) -> Result<(), Failed>
     requires { W.failures writer.old < 2 ^ 64 - 1 }
     ensures ok { OnOk result (Sends (W.contents writer.old) out.old.items []
@@ -76,8 +76,8 @@ fn send_with<W: Sink>(writer: &mut W, out: &mut Vec<u8>, text: &str) -> Result<(
     }
 }
 
-/// Replies to the line that is held, and sends what waits if it is much, or if there is no memory
-/// for the reply.
+/// Replies to the line that is held, and then sends what waits if it is at least `MUCH` bytes. If
+/// there is no memory for the reply, sends what waits, and then the text of `Talk::lost`.
 pub(crate) fn say<T: Talk, W: Sink>(
     talk: &mut T,
     alloc: Global,

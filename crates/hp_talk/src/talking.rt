@@ -32,8 +32,8 @@ pub enum TalkEnd {
 /// Replies to each line that the reader gives, and writes the replies, until the talk ends. What was
 /// written is sent before more is read, so who waits for a reply gets it.
 ///
-/// The last line may lack its newline. An empty line is a line. Fails if there is no memory to begin
-/// with; nothing was read then.
+/// The last line may lack its newline. An empty line is a line. Fails if there is no memory for its
+/// buffers; nothing was read then.
 pub fn run_talk<T: Talk, R: Source, W: Sink>(
     talk: &mut T,
     alloc: Global,
@@ -56,7 +56,8 @@ pub fn run_talk<T: Talk, R: Source, W: Sink>(
     Ok(talk_on(talk, alloc, &mut held, &mut block, &mut out, reader, writer))
 }
 
-/// Talks until the talk ends. Nothing is held and nothing waits.
+/// Reads, replies and sends until the talk ends. At the start, `held` is empty, and nothing waits
+/// to be sent.
 fn talk_on<T: Talk, R: Source, W: Sink>(
     talk: &mut T,
     alloc: Global,
@@ -84,8 +85,8 @@ fn talk_on<T: Talk, R: Source, W: Sink>(
     TalkEnd::Worn
 }
 
-/// Reads a block and hears it, and returns how the talk ended, if it did. Nothing waits before, nor
-/// after if the talk goes on.
+/// Reads a block, replies to the lines that end in it, and sends the replies. Returns how the talk
+/// ended, or `None` if it goes on. In that case nothing waits to be sent, as at the start.
 fn hear_more<T: Talk, R: Source, W: Sink>(
     talk: &mut T,
     alloc: Global,
@@ -115,7 +116,8 @@ fn hear_more<T: Talk, R: Source, W: Sink>(
     }
 }
 
-/// Hears a block, and sends the replies. Returns how the talk ended, if it did.
+/// Replies to the lines that end in a block, and sends the replies. Returns how the talk ended, or
+/// `None` if it goes on.
 fn hear_block<T: Talk, W: Sink>(
     talk: &mut T,
     alloc: Global,
@@ -146,7 +148,8 @@ fn hear_block<T: Talk, W: Sink>(
     }
 }
 
-/// Hears the line that the input ends in, if there is one, and sends the reply.
+/// Replies to the last line of the input if it lacks its newline, and sends the reply. Returns how
+/// the talk ended.
 fn hear_last<T: Talk, W: Sink>(
     talk: &mut T,
     alloc: Global,

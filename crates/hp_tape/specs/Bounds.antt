@@ -12,13 +12,15 @@ use Rattle.hp_units.specs.Rows.{blocks_of}
 
 -- ---- of the layers' calls
 
--- taking a block, giving one back, and stealing one
+-- taking a block
 abbrev pub take_bound : LayoutParts → ℕ
 take_bound l = l.order + 1
 
+-- giving a block back
 abbrev pub give_bound : LayoutParts → ℕ
 give_bound l = l.order + 1
 
+-- stealing a block
 abbrev pub steal_bound : LayoutParts → ℕ
 steal_bound l = l.order + 2
 
@@ -30,16 +32,17 @@ move_bound l = 1 + 2 * 2 ^ l.order
 abbrev pub batch_bound : LayoutParts → ℕ
 batch_bound l = l.batch * (l.order + 2) + 1
 
--- taking one frame from a processor's list: one delta if the list has a frame, otherwise a refill
+-- taking one frame from a list: one delta if the list has a frame, otherwise `batch_bound`
 abbrev pub take_one_from : LayoutParts → List ℕ → ℕ
 take_one_from l [] = batch_bound l
 take_one_from l (frame ∷ frames) = 1
 
+-- taking one frame from a processor's list
 abbrev pub take_one_bound : LayoutParts → FreeFrames → (cpu : ℕ) → Pool → ℕ
 take_one_bound l fs cpu pool = take_one_from l (cached_list fs cpu pool)
 
 -- giving one frame back: straight to the areas if its pageblock is isolated; otherwise one delta,
--- or a spill
+-- or `batch_bound` if the list gets longer than `high`
 abbrev pub put_one_bound : LayoutParts → FreeFrames → (cpu : ℕ) → Zone → (frame : ℕ) → ℕ
 put_one_bound l fs cpu zone frame =
     let kind = kind_of fs.areas (pageblock_of l frame) in
@@ -59,13 +62,15 @@ drain_bound l fs cpu = cached_frames fs cpu * (l.order + 2)
 
 -- ---- of the events
 
--- isolating or releasing a block; committing one; taking one online
+-- isolating or releasing a memory block
 abbrev pub moved_block_bound : LayoutParts → ℕ
 moved_block_bound l = 1 + l.pageblocks * (1 + 2 * 2 ^ l.order)
 
+-- committing a memory block
 abbrev pub committed_block_bound : LayoutParts → ℕ
 committed_block_bound l = 1 + 2 * l.pageblocks
 
+-- taking a memory block online
 abbrev pub online_bound : LayoutParts → ℕ
 online_bound l = 1 + l.pageblocks
 

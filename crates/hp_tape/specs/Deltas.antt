@@ -57,7 +57,7 @@ frame_view_of l s =
 
 -- ---- the delta of a word
 
--- the short form if the word was and is below 2^32, otherwise the long form
+-- the short form if the old and the new word are below 2^32, otherwise the long form
 abbrev pub word_delta : (frame index was now : ℕ) → Delta
 word_delta frame index was now =
     if nat_lt was (2 ^ 32) && nat_lt now (2 ^ 32)
@@ -137,7 +137,7 @@ is_behind None frame (first ∷ frames) = first == frame
 is_behind (Some after) frame (first ∷ frames) =
     if first == after then is_behind None frame frames else is_behind (Some after) frame frames
 
--- a frame is on none of the lists, and may be put after another on one of them
+-- `frame` is on none of `lists`, and may be put on `frames` after `after`, or at the front
 abbrev pub may_go_behind : List (List ℕ) → Option ℕ → ℕ → List ℕ → Bool
 may_go_behind lists after frame frames =
     list_all (λ other. not (is_on frame other)) lists
@@ -156,7 +156,7 @@ FitsCached (Unlink (Cpu pool cpu) frame after) fs =
     may_go_behind fs.cached after frame (cached_list fs cpu pool) ≡ true
 FitsCached delta fs = Unit {0}
 
--- the same for the free areas and the processors' lists together
+-- the delta fits the free areas and the processors' lists
 abbrev pub FitsFree : Delta → FreeFrames → Type 0
 FitsFree delta fs = FitsAreas delta fs.areas × FitsCached delta fs
 
@@ -197,16 +197,17 @@ pub record Fits (delta : Delta) (v : FrameView) : Type 0 where
   pub kernel : FitsKernel delta v.kernel
   pub blocks : FitsBlocks delta v.blocks
 
--- each delta fits when its turn comes
+-- each delta fits the state in which it is undone, latest first
 abbrev pub AllFit : {S : Type 0} → (Delta → S → Type 0) → (Delta → S → S) → List Delta → S → Type 0
 AllFit Fit one [] v = Unit {0}
 AllFit Fit one (delta ∷ deltas) v = AllFit Fit one deltas v × Fit delta (undo_all one deltas v)
 
--- the numbers of a list, and of a delta, are within the layout
+-- the numbers of a list are within the layout
 abbrev pub IsListOf : LayoutParts → ListId → Type 0
 IsListOf l (Area class order) = order ≤ l.order
 IsListOf l (Cpu pool cpu) = cpu < l.cpus
 
+-- the numbers of a delta are within the layout
 abbrev pub IsDeltaOf : LayoutParts → Delta → Type 0
 IsDeltaOf l (Link list frame after) = IsListOf l list × IsFrame l frame
 IsDeltaOf l (Unlink list frame after) = IsListOf l list × IsFrame l frame
@@ -225,21 +226,21 @@ IsDeltaOf l (AutoDelta was now) = Unit {0}
 
 -- ---- to which part of the state a delta belongs
 
--- the free areas: their lists, and the pageblocks' kinds
+-- the delta is of the free areas: their lists, and the pageblocks' kinds
 abbrev pub IsOfAreas : Delta → Type 0
 IsOfAreas (Link (Area class order) frame after) = Unit {0}
 IsOfAreas (Unlink (Area class order) frame after) = Unit {0}
 IsOfAreas (KindDelta pageblock was now) = Unit {0}
 IsOfAreas delta = ⊥
 
--- the free areas and the processors' lists: any list, and the pageblocks' kinds
+-- the delta is of the free areas or the processors' lists: any list, and the pageblocks' kinds
 abbrev pub IsOfFree : Delta → Type 0
 IsOfFree (Link list frame after) = Unit {0}
 IsOfFree (Unlink list frame after) = Unit {0}
 IsOfFree (KindDelta pageblock was now) = Unit {0}
 IsOfFree delta = ⊥
 
--- the owners' pages
+-- the delta is of the owners' pages
 abbrev pub IsOfPages : Delta → Type 0
 IsOfPages (MapDelta owner page change) = Unit {0}
 IsOfPages (Swap a b) = Unit {0}
@@ -249,7 +250,7 @@ IsOfPages (Filled index frame now) = Unit {0}
 IsOfPages (Emptied frame words) = Unit {0}
 IsOfPages delta = ⊥
 
--- the rows of the memory blocks
+-- the delta is of the rows of the memory blocks
 abbrev pub IsOfBlocks : Delta → Type 0
 IsOfBlocks (RowDelta change) = Unit {0}
 IsOfBlocks (AutoDelta was now) = Unit {0}

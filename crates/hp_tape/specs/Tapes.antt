@@ -22,8 +22,8 @@ pub record LeadBack {S : Type 0} (Fit : Delta → S → Type 0) (one : Delta →
   pub fit : AllFit Fit one deltas later
   pub back : undo_all one deltas later ≡ earlier
 
--- a call notes at most `most` deltas, of its layer and of the layout, and they lead back from what
--- it leaves to what it found
+-- a call notes at most `most` deltas, of its layer and of the layout; they lead back from the state
+-- that it leaves to the one that it found
 pub record Notes {S : Type 0} (Own : Delta → Type 0) (Fit : Delta → S → Type 0) (one : Delta → S → S)
     (l : LayoutParts) (most : ℕ) (was now : TapeValue) (later earlier : S) : Type 0 where
   pub deltas : List Delta
@@ -33,16 +33,19 @@ pub record Notes {S : Type 0} (Own : Delta → Type 0) (Fit : Delta → S → Ty
   pub numbers : AllByRecursion (IsDeltaOf l) deltas
   pub lead : LeadBack Fit one deltas later earlier
 
--- the same for the free areas, the free frames, the pages and the rows
+-- what a call of the free areas notes
 abbrev pub NotesAreas : LayoutParts → ℕ → (was now : TapeValue) → (later earlier : FreeAreas) → Type 0
 NotesAreas l most was now later earlier = Notes IsOfAreas FitsAreas areas_undo l most was now later earlier
 
+-- what a call of the free areas and the processors' lists notes
 abbrev pub NotesFree : LayoutParts → ℕ → (was now : TapeValue) → (later earlier : FreeFrames) → Type 0
 NotesFree l most was now later earlier = Notes IsOfFree FitsFree free_undo l most was now later earlier
 
+-- what a call of the owners' pages notes
 abbrev pub NotesPages : LayoutParts → ℕ → (was now : TapeValue) → (later earlier : PageFrames) → Type 0
 NotesPages l most was now later earlier = Notes IsOfPages FitsPages pages_undo l most was now later earlier
 
+-- what a call of the memory blocks' rows notes
 abbrev pub NotesBlocks : LayoutParts → ℕ → (was now : TapeValue) → (later earlier : Blocks) → Type 0
 NotesBlocks l most was now later earlier =
     Notes IsOfBlocks FitsBlocks blocks_undo l most was now later earlier

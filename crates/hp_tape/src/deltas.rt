@@ -11,7 +11,7 @@ use hp_units::{Auto, Class, Cpu, Frame, Kind, Order, Owner, Page, Pageblock, Poo
 use std::alloc::{AllocError, Global};
 use std::mem::size_of;
 
-/// A list of frames, in three bytes.
+/// Names a list of frames. Takes three bytes.
 #[derive(Clone, Copy, PartialEq, Eq, Drop)]
 pub enum ListId {
     /// The free blocks of a class and an order, 0 to 10.
@@ -46,13 +46,13 @@ impl ListId {
 /// words take one or two bytes, frames and pageblocks four.
 #[derive(Drop)]
 pub enum Delta {
-    /// A frame was put after another, or at the front.
+    /// A frame was put on a list, after another or at the front.
     Link {
         list: ListId,
         frame: Frame,
         after: Option<Frame>,
     },
-    /// A frame left its position after another, or at the front.
+    /// A frame left a list, on which it came after another or was at the front.
     Unlink {
         list: ListId,
         frame: Frame,
@@ -81,15 +81,15 @@ pub enum Delta {
         a: Frame,
         b: Frame,
     },
-    /// One word in a frame's buffer changed, and was and is below 2^32. Words are counted from 0,
-    /// and a frame has at most 512.
+    /// One word in a frame's buffer changed, and its old and new values are below 2^32. Words are
+    /// counted from 0, and a frame has at most 512.
     Word {
         index: u16,
         frame: Frame,
         was: u32,
         now: u32,
     },
-    /// One word in a frame's buffer changed, and was or is 2^32 or more.
+    /// One word in a frame's buffer changed, and its old or its new value is 2^32 or more.
     LargeWord {
         index: u16,
         frame: Frame,
@@ -110,7 +110,7 @@ pub enum Delta {
     },
     /// The row of a memory block changed.
     Row(RowChange),
-    /// What an added memory block becomes changed.
+    /// The setting for added memory blocks changed.
     Auto {
         was: Auto,
         now: Auto,

@@ -7,11 +7,11 @@ use hp_units::Frame;
 /// A change of an owner's page.
 #[derive(Clone, Copy, PartialEq, Eq, Drop)]
 pub enum FrameChange {
-    /// It got this frame.
+    /// The page got this frame.
     Mapped(Frame),
-    /// It lost this frame.
+    /// The page lost this frame.
     Unmapped(Frame),
-    /// It moved from one frame to another.
+    /// The page moved from one frame to another.
     Moved { was: Frame, now: Frame },
 }
 

@@ -6,7 +6,7 @@ use Rattle.hp_units.specs.declared.replies.CallFault.{CallFault}
 use Rattle.hp_units.specs.declared.replies.Reply.{Reply}
 use Rattle.hp_text.specs.State.{newline}
 
--- only the reply
+-- a reply without its serial
 abbrev pub bare_reply_line : Reply → List ℕ
 bare_reply_line reply = reply_text reply ++ newline
 

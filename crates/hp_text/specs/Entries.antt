@@ -13,11 +13,11 @@ line_entry names line = codes "\"" ++ line_text names line ++ codes "\""
 abbrev pub call_entry : (names : List (List ℕ)) → Record → List ℕ
 call_entry names r = codes "\"" ++ call_text names r.cpu r.event ++ codes "\""
 
--- calls only
+-- the entries of calls
 abbrev pub calls_text : (between : List ℕ) → (names : List (List ℕ)) → List Record → List ℕ
 calls_text between names calls = separated between (call_entry names) true calls
 
--- lines, then calls
+-- the entries of the lines, then those of the calls
 abbrev pub entries_text : (names : List (List ℕ)) → List Line → List Record → List ℕ
 entries_text names lines calls =
     separated (codes ",\n") (line_entry names) true lines

@@ -28,7 +28,7 @@ is_hidden c =
 abbrev pub numbered : ℕ → List ℕ
 numbered c = codes "\\u" ++ padded_integral (format_spec 32 0 4 4 (2 ^ 64 - 1)) false [] (digits 16 false c)
 
--- a character
+-- a character as in a JSON string
 abbrev pub escaped : Brackets → ℕ → List ℕ
 escaped brackets c =
     if c == 34 then codes "\\\""
@@ -38,11 +38,11 @@ escaped brackets c =
     else (if c == 9 then codes "\\t"
     else (if is_hidden c || (are_escaped brackets && is_bracket c) then numbered c else encode_utf8 c)))))
 
--- a text
+-- a text as in a JSON string, character by character
 unfoldable pub escaped_text : Brackets → List ℕ → List ℕ
 escaped_text brackets text = flat_map (escaped brackets) (chars text)
 
--- at most `most` characters of a text, and two dots if there are more
+-- at most `most` characters of a text as in a JSON string, and two dots if there are more
 unfoldable pub escaped_start : Brackets → (most : ℕ) → List ℕ → List ℕ
 escaped_start brackets most text =
     flat_map (escaped brackets) (take most (chars text))

@@ -39,7 +39,7 @@ pages_text owners pages = codes ",\n\"owners\": " ++ decimal owners ++ codes ", 
 unfoldable pub rest_text : (words history : ℕ) → List ℕ
 rest_text words history = codes ", \"words\": " ++ decimal words ++ codes ", \"history\": " ++ decimal history
 
--- the sizes with the marks of the processors' lists; the limits
+-- the sizes, with `batch` and `high` of the processors' lists; the limits
 unfoldable pub sizes_text : LayoutParts → List ℕ
 sizes_text l = frames_text l.order l.pageblocks ++ counts_text l.blocks l.cpus ++ marks_text l.batch l.high
 

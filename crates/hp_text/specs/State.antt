@@ -121,7 +121,8 @@ marked_line m l a = words_line (mark_text m ++ codes ":") (marked_words m l a)
 
 -- ---- the lists of free frames
 
--- the line of a class's list of an order, and of a processor's list for a pool
+-- the line of a class's list of an order, and of a processor's list for a pool, unless the list is
+-- empty
 abbrev pub free_line : Class → ℕ → List ℕ → List ℕ
 free_line class order frames =
     numbers_line (class_text class ++ codes " " ++ decimal order ++ codes ":") frames
@@ -130,7 +131,7 @@ abbrev pub cached_line : (cpu : ℕ) → Pool → List ℕ → List ℕ
 cached_line cpu pool frames =
     numbers_line (codes "cpu " ++ decimal cpu ++ codes " " ++ pool_text pool ++ codes ":") frames
 
--- a class's lists in increasing order
+-- a class's lists, lowest order first
 unfoldable pub class_lists_text : LayoutParts → FreeAreas → Class → List ℕ
 class_lists_text l a class =
     texts_below (λ order. free_line class order (free_list a class order)) (l.order + 1)
@@ -151,7 +152,7 @@ processors_lists_text l fs = texts_below (processor_lists_text fs) l.cpus
 
 -- ---- what is in use
 
--- the kernel's block that starts at a frame
+-- the line of the kernel's block that starts at a frame, if there is one
 abbrev pub kernel_line : ℕ → Option ℕ → List ℕ
 kernel_line frame None = []
 kernel_line frame (Some order) =
@@ -164,7 +165,7 @@ kernel_text l s = texts_below (λ frame. kernel_line frame (kernel_order s frame
 abbrev pub name_of : List (List ℕ) → ℕ → List ℕ
 name_of names owner = unwrap_or (slice_get names owner) []
 
--- a mapped page
+-- the line of a mapped page: its owner's name, its number, its frame, and its words
 abbrev pub page_head : (name : List ℕ) (page frame : ℕ) → List ℕ
 page_head name page frame =
     codes "page " ++ name ++ codes " " ++ decimal page ++ codes " at " ++ decimal frame ++ codes ":"
@@ -177,7 +178,7 @@ abbrev pub page_text : (name : List ℕ) (page : ℕ) → Option ℕ → Option 
 page_text name page None words = []
 page_text name page (Some frame) words = page_line name page frame (unwrap_or words [])
 
--- an owner's pages
+-- the lines of an owner's mapped pages
 unfoldable pub owner_text : LayoutParts → List (List ℕ) → Pages → ℕ → List ℕ
 owner_text l names ps owner =
     texts_below
@@ -188,13 +189,13 @@ pages_text l names ps = texts_below (owner_text l names ps) l.owners
 
 -- ---- the whole state
 
--- the blocks and their pageblocks
+-- the lines of the memory blocks, of what an added block becomes, and of the marked pageblocks
 unfoldable pub rows_text : LayoutParts → Memory → List ℕ
 rows_text l s =
     blocks_text l s.blocks ++ auto_line s.blocks.auto ++ marked_line mark.Unmovable l s.free.areas
     ++ marked_line mark.Isolated l s.free.areas
 
--- the frames
+-- the lines of the frames: those that are free, then those in use
 unfoldable pub frames_text : LayoutParts → List (List ℕ) → Memory → List ℕ
 frames_text l names s =
     free_lists_text l s.free.areas ++ processors_lists_text l s.free ++ kernel_text l s

@@ -66,7 +66,7 @@ fn write_line_entry(out: &mut String, names: &IndexSet<Text>, line: &Line) -> Re
     out.push_str("\"")
 }
 
-/// Writes calls as entries; no comma comes before the first if `is_first`.
+/// Writes calls as entries, with `between` before each. None comes before the first if `is_first`.
 fn write_calls_after(
     out: &mut String,
     names: &IndexSet<Text>,

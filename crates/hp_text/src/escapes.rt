@@ -14,15 +14,21 @@ pub enum Brackets {
 }
 
 /// Writes a text as in a JSON string (RFC 8259, section 7), without the quotation marks, on one
-/// line.
+/// line. `brackets` is how square brackets are written.
 ///
-/// Characters that a reader cannot see, that a terminal may obey, or that change the order in which
-/// text is read are written as `\u` escapes (The Unicode Standard, chapter 23): control characters
-/// (U+0000 to U+001F, U+007F to U+009F), white space other than the space (U+00A0, U+1680, U+2000
-/// to U+200A, U+2028, U+2029, U+202F, U+205F, U+3000), the soft hyphen (U+00AD), characters of no
-/// width (U+180E, U+200B to U+200D, U+2060 to U+2064, U+FEFF), marks of direction (U+061C, U+200E,
-/// U+200F, U+202A to U+202E, U+2066 to U+2069), and marks of annotation (U+206A to U+206F, U+FFF9
-/// to U+FFFB).
+/// Quotation marks, backslashes, newlines, carriage returns and tabs are written as `\"`, `\\`,
+/// `\n`, `\r` and `\t`. Other characters that a reader cannot see, that a terminal may obey, or
+/// that change the order in which text is read are written as `\u` escapes (The Unicode Standard,
+/// chapter 23):
+///
+/// - control characters: U+0000 to U+001F, U+007F to U+009F;
+/// - white space other than the space: U+00A0, U+1680, U+2000 to U+200A, U+2028, U+2029, U+202F,
+///   U+205F, U+3000;
+/// - the soft hyphen: U+00AD;
+/// - characters of no width: U+180E, U+200B to U+200D, U+2060 to U+2064, U+FEFF;
+/// - marks of direction: U+061C, U+200E, U+200F, U+202A to U+202E, U+2066 to U+2069;
+/// - marks of annotation: U+206A to U+206F, U+FFF9 to U+FFFB;
+/// - U+2065, which is not assigned.
 #[tactic(auto, unfolding(crate::specs::Escapes::escaped_text))]
 pub fn write_escaped(out: &mut String, text: &str, brackets: Brackets) -> Result<(), AllocError>
     ensures { OnOk result (string_bytes out.new ≡ string_bytes out.old ++ escaped_text brackets text.now) }

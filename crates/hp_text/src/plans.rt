@@ -50,7 +50,8 @@ fn write_why(out: &mut String, why: Option<Refusal>) -> Result<(), AllocError>
     }
 }
 
-/// Writes that an operation was left, and the fault.
+/// Writes that a plan's run ended because a call left no record: its operation, if it has begun,
+/// and the fault.
 fn write_left(out: &mut String, op: Option<Serial>, fault: CallFault) -> Result<(), AllocError>
     ensures { OnOk result (string_bytes out.new
         ≡ string_bytes out.old ++ codes "left " ++ operation_text op ++ codes " " ++ call_fault_text fault) }

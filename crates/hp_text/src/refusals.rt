@@ -59,7 +59,7 @@ fn name_of(refusal: Refusal) -> (&'static str, Option<u32>)
     }
 }
 
-/// Writes the name of a fault that left no record.
+/// Writes the name of the fault of a call that left no record.
 pub(crate) fn write_call_fault_name(out: &mut String, fault: CallFault) -> Result<(), AllocError>
     ensures { OnOk result (string_bytes out.new ≡ string_bytes out.old ++ call_fault_text fault) }
 {

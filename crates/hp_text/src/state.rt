@@ -121,7 +121,7 @@ fn write_auto(out: &mut String, auto: Auto) -> Result<(), AllocError>
     Ok(())
 }
 
-/// Writes the line of the pageblocks with a mark.
+/// Writes the line with the numbers of the pageblocks that have `mark`, unless there are none.
 #[tactic(auto, unfolding(crate::specs::State::marked_line, crate::specs::State::words_line))]
 fn write_marked(
     out: &mut String,

@@ -44,7 +44,8 @@ abbrev pub moved_of : Reply → Option Move
 moved_of (Moved from to) = Some (record { from = from; to = to })
 moved_of _ = None
 
--- either the event was called, or the history is full and a text below the row reports this
+-- either the call was made, and has a row, or the history is full and a text below the row reports
+-- this
 abbrev pub MakesEvent : MachineValue → (cpu : ℕ) → Event → (asked : List ℕ) → (rows : List Row)
     → (after : MachineValue) → Type 0
 MakesEvent m cpu event asked rows after =
@@ -54,12 +55,12 @@ MakesEvent m cpu event asked rows after =
 
 -- ---- a plan
 
--- the text for a call of a plan's driver, which has no line of its own. The call accesses no page, so
--- the text needs no owners' names
+-- the text for a call of a plan's driver, which has no line of its own. The call accesses no page,
+-- so the text needs no owners' names
 abbrev pub step_text : Event → List ℕ
 step_text event = codes "     " ++ event_text [] event
 
--- the processor's calls, one after another, gave these receipts
+-- the processor made calls, one after another, which gave these receipts; `rows` has a row for each
 abbrev pub MakesSteps : (cpu : ℕ) → MachineValue → List Receipt → (rows : List Row) → (after : MachineValue)
     → Type 0
 MakesSteps cpu m [] rows after = (after ≡ m) × (rows ≡ [])
@@ -68,13 +69,13 @@ MakesSteps cpu m (r ∷ rs) rows after =
     × (rows ≡ drawing (step_text r.event) (answer_text r) (moved_of r.reply) next ∷ rest)
     × MakesSteps cpu next rs rest after
 
--- a plan's driver stops early only if the history is full
+-- the fault that ended a plan's driver early, if any, is that the history is full, and it is full
 abbrev pub IsStop : Option CallFault → MachineValue → Type 0
 IsStop None m = ⊤
 IsStop (Some HistoryFull) m = is_full m ≡ true
 IsStop (Some OutOfMemory) m = ⊥
 
--- the plan's driver ran, and the plan ended with `end`
+-- the plan's driver ran, and the plan ended with `end`; `rows` has a row for each of its calls
 pub record IsDriven (m : MachineValue) (cpu turns : ℕ) (plan : List Item) (end : OpEnd) (rows : List Row)
     (after : MachineValue) : Type 0 where
   pub receipts : List Receipt
@@ -107,7 +108,8 @@ MakesSeal m asked rows after =
 
 -- ---- the work that a line asks for
 
--- the line's work was done. If a control file does not take its word, a text below the row reports that
+-- the line's work was done. If a control file does not take its word, a text below the row reports
+-- that
 abbrev pub MakesWork : MachineValue → (cpu : ℕ) → asks.Meaning → (asked : List ℕ) → (rows : List Row)
     → (after : MachineValue) → Type 0
 MakesWork m cpu (asks.event e) asked rows after = MakesEvent m cpu e asked rows after

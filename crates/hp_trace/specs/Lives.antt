@@ -50,7 +50,7 @@ abbrev pub AreRead : (names : List (List ℕ)) → List Numbered → (last : Lis
 AreRead names [] last = last ≡ names
 AreRead names (n ∷ read) last = (text : List ℕ) × (line_in names text ≡ Some n) × AreRead n.names read last
 
--- the lines were run one after another, from line number `number` on, and the text was emptied before
+-- the lines were run one after another, the first as line `number`, and the text was emptied before
 -- each. `shown` are the texts after each line, joined
 abbrev pub LivesThrough : (number : ℕ) → List Numbered → (shown : List ℕ) → (old new : LiveValue) → Type 0
 LivesThrough number [] shown old new = (shown ≡ []) × (new ≡ old)
@@ -63,8 +63,9 @@ abbrev pub with_lines : ScenarioValue → List Numbered → (last : List (List �
 with_lines s read last =
     record { layout = s.layout; names = last; lines = s.lines ++ map (λ n. n.line) read }
 
--- the first row, and the rows shown for the lines after a scenario, are a trace. It is the trace of
--- the scenario with these lines at its end, from the first of them on
+-- the first row, and the rows shown for the lines after a scenario, are the rows of a trace. It is
+-- the trace of the scenario with these lines at its end, in a view that begins with the first of
+-- them
 abbrev pub ShowTheTrace : Type 0
 ShowTheTrace =
     (v : View) (s : ScenarioValue) (read : List Numbered) (last : List (List ℕ)) (shown : List ℕ)

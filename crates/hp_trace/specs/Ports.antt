@@ -19,7 +19,7 @@ abbrev pub IsTraced : (cpu : ℕ) → (old : RowsValue) → (was_lost : Bool) �
 IsTraced cpu old was_lost m receipts new is_lost after =
     is_lost ≡ false → (was_lost ≡ false) × Adds old new (λ rows. MakesSteps cpu m receipts rows after)
 
--- the call left this fault because the history is full, unless memory ran out
+-- a call failed with this fault because the history is full, unless memory ran out
 abbrev pub LeavesOff : MachineValue → (was_lost : Bool) → CallFault → (is_lost : Bool) → Type 0
 LeavesOff m was_lost fault is_lost = is_lost ≡ false → (was_lost ≡ false) × IsStop (Some fault) m
 

@@ -17,8 +17,8 @@ use Rattle.hp_trace_json.specs.Traces.{TraceValue, no_trace}
 use Rattle.hp_trace.specs.declared.rows.Form.{Form}
 use Rattle.hp_trace.specs.declared.rows.Form.TheVariants.{Joined, Kept, Logged, Told, Unseen, Written}
 
--- the form of the rows, and the rows so far: as text, as values that are kept, as a log, as JSON, and
--- in the joiner of equal rounds
+-- the form of the rows, and the rows so far: as text, as values that are kept, as a log, as JSON,
+-- and in the joiner of equal rounds
 pub record RowsValue : Type 0 where
   pub form : Form
   pub text : List ℕ
@@ -101,7 +101,7 @@ pub record AreRowsShown (rows : List RowValue) (old new : RowsValue) : Type 0 wh
   pub shown : AreShown rows old.text text
   pub is : new ≡ record old { text = text; kept = kept }
 
--- entries were added to the text
+-- entries were added to the text; each is a round with the number of its repeats, or one row
 pub record AreMoreShown (entries : List RoundsValue) (old new : RowsValue) : Type 0 where
   pub text : List ℕ
   pub kept : List RowValue

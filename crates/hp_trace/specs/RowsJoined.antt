@@ -9,7 +9,8 @@ use Rattle.hp_trace.specs.Columns.{IsRowIn}
 abbrev pub is_line : RowValue → Bool
 is_line row = (length row.answer == 0) && (length row.blocks == 0)
 
--- one more row was added to a text: either a line of text as it is, or any other row with its answer
+-- one more row was added to a text: either a line of text as it is, or any other row with its
+-- answer
 abbrev pub IsShownAs : (is_a_line : Bool) → (asked answer old new : List ℕ) → Type 0
 IsShownAs true asked answer old new = new ≡ old ++ asked ++ newline
 IsShownAs false asked answer old new = IsRowIn asked answer old new
@@ -23,18 +24,19 @@ abbrev pub AreShown : List RowValue → (old new : List ℕ) → Type 0
 AreShown [] old new = new ≡ old
 AreShown (row ∷ rows) old new = (mid : List ℕ) × IsShownIn row old mid × AreShown rows mid new
 
--- the line about the rounds that are not shown; empty without such rounds
+-- the line about the rounds that are not shown; the empty text if all rounds are shown
 abbrev pub more_line : RoundsValue → List ℕ
 more_line r = if r.more == 0 then [] else codes "     " ++ more_text r ++ newline
 
--- these entries were added to the text, each with the line about its rounds that are not shown
+-- these entries were added to the text: the rows of each, and the line about the repeated rounds
+-- that are not shown
 abbrev pub AreEntriesShown : List RoundsValue → (old new : List ℕ) → Type 0
 AreEntriesShown [] old new = new ≡ old
 AreEntriesShown (r ∷ rest) old new =
     (mid : List ℕ) × AreShown r.rows old mid × AreEntriesShown rest (mid ++ more_line r) new
 
--- the text shows these rows: each row either is shown, or is in a round that repeats the round right
--- above it
+-- the text shows these rows: each row either is shown, or is in a round that repeats the round
+-- right above it
 pub record IsJoinedText (rows : List RowValue) (text : List ℕ) : Type 0 where
   pub entries : List RoundsValue
   pub joined : IsJoinOf rows entries

@@ -6,8 +6,8 @@ use Rattle.hp_lawful.specs.Logs.{step_log}
 use Rattle.hp_machine.specs.Machine.{MachineValue}
 use Rattle.hp_step_logs.specs.Snapshots.{Shows, SnapshotValue, snapshot_of}
 
--- the events so far, and a snapshot of the state that they lead to; before the first state there is no
--- snapshot
+-- the events so far, and a snapshot of the state that they lead to; before the first state there is
+-- no snapshot
 pub record LogValue : Type 0 where
   pub seen : Option SnapshotValue
   pub events : List LogEvent
@@ -16,8 +16,8 @@ pub record LogValue : Type 0 where
 abbrev pub no_log : LogValue
 no_log = record { seen = None; events = [] }
 
--- the events of the step from the last state that was seen to the machine's state; none for the first
--- state
+-- the events of the step from the last state that was seen to the machine's state; none for the
+-- first state
 abbrev pub IsStepFrom : MachineValue → Option SnapshotValue → List LogEvent → Type 0
 IsStepFrom m None events = events ≡ []
 IsStepFrom m (Some seen) events =

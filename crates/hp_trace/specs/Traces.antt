@@ -41,8 +41,8 @@ abbrev pub shown_rows : View → (number : ℕ) → (lists : List (List Row)) �
 shown_rows v number [] = []
 shown_rows v number (rows ∷ rest) = rows_if (shows v number) rows ++ shown_rows v (number + 1) rest
 
--- the text of the first row, which shows the memory either at boot or before the first line that may be
--- shown
+-- the text of the first row, which shows the memory either at boot or before the first line that
+-- may be shown
 abbrev pub start_text : View → List ℕ
 start_text v = if nat_le v.from 1 then codes "   0 boot" else codes "     before line " ++ decimal v.from
 
@@ -68,8 +68,8 @@ pub record TracesLines (v : View) (names : List (List ℕ)) (before : ℕ) (m : 
   pub made : MakesLines names (before + 1) m lines lists after
   pub drawn : AreDrawn (shown_rows v (before + 1) lists) old new
 
--- the lines before the first that may be shown were run from boot on. Then the row of the memory was
--- drawn in this form, and below it the rows of the other lines
+-- the lines before the first that may be shown were run from boot on. Then the row of the memory
+-- was drawn in this form, and below it the rows of the other lines that are shown
 pub record IsScenarioTraced (form : Form) (v : View) (s : ScenarioValue) (rows : RowsValue) : Type 0 where
   pub unseen : List (List Row)
   pub first : MachineValue

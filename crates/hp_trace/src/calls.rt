@@ -1,4 +1,4 @@
-//! Does what a line asks for, and draws it.
+//! Does what a line asks for, and adds the line's rows to the trace.
 ghost use Rattle.std.specs.Prelude.{◌≡◌, ◌++◌, OnOk, string_bytes};
 ghost use Rattle.hp_scenario.specs.Asked.{asked_by};
 ghost use Rattle.hp_control.specs.Reads.{file_text};
@@ -15,20 +15,20 @@ use hp_text::{write_echo_fault, write_read_fault, write_sealed, write_unrecorded
 use hp_units::{CallFault, Cpu, Event};
 use std::alloc::{AllocError, Global};
 
-/// The text below a row.
+/// What the text below a row reports.
 #[derive(Clone, Copy)]
 enum Remark {
     /// The history is full.
     Full,
-    /// A control file does not take a word.
+    /// A control file does not take the word of an `echo`, for this reason.
     Untaken(ControlFault),
-    /// A control file is not read.
+    /// A control file cannot be read, for this reason.
     Unread(ControlFault),
     /// A seal handed out this many records.
     Sealed(u64),
 }
 
-/// Does what a line asks for, and draws it.
+/// Does what a line asks for, and adds the line's rows.
 pub(crate) fn trace_work(
     rows: &mut Rows,
     alloc: Global,
@@ -96,7 +96,7 @@ fn write_remark(out: &mut String, remark: Remark) -> Result<(), AllocError>
     }
 }
 
-/// Reads a control file, and notes its text, or why it is not read.
+/// Reads a control file. Adds a row, and below it the file's text or why it cannot be read.
 fn trace_file(
     rows: &mut Rows,
     alloc: Global,
@@ -115,7 +115,8 @@ fn trace_file(
     }
 }
 
-/// Hands the machine's records out and drops them, and notes how many there were.
+/// Seals the machine's history, and drops the records that this hands out. Adds a row, and below it
+/// how many records there were.
 fn trace_seal(
     rows: &mut Rows,
     alloc: Global,

@@ -23,8 +23,8 @@ pub(crate) fn write_row(
     writeln!(out, "{asked}{below} {answer}{beside}{memory}")
 }
 
-/// Returns the gap after a text that has `columns` columns: spaces, or if the text is wider, a
-/// newline and `next` spaces.
+/// Returns what comes after a text in a column of this width: spaces up to the end of the column.
+/// After a text that is wider, it is a newline and `next` spaces.
 fn gap_after(alloc: Global, text: &str, columns: usize, next: usize) -> Result<String, AllocError> {
     let mut gap = String::new(alloc);
     if text.len() > columns {

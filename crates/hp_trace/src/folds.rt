@@ -24,8 +24,9 @@ impl RowLayout {
         }
     }
 
-    /// Returns how rows are written after one with these memory blocks. If the first row takes more
-    /// than one line, later rows show only the blocks that changed.
+    /// Returns how rows are written after a row with these memory blocks. If it is the first row,
+    /// and its memory takes more than one line, later rows show only the memory blocks that
+    /// changed.
     pub(crate) fn after(
         self,
         alloc: Global,
@@ -82,7 +83,7 @@ struct Lines {
 }
 
 impl Lines {
-    /// Makes an empty text with lines of this many columns.
+    /// Creates an empty text with lines of this many columns.
     fn new(alloc: Global, room: u64) -> Lines {
         Lines {
             text: String::new(alloc),
@@ -114,8 +115,8 @@ impl Lines {
         let is_whole = (counted.len() as u64) < self.room;
         let mut word = String::new(alloc);
         for piece in counted.split(' ') {
-            // The mark of absent frames is a space. So their count is split in two, and a piece
-            // that begins with `*` is not a word.
+            // The mark of absent frames is a space, at which their count is split in two. So a
+            // piece that begins with `*` belongs to the word before it.
             if !is_whole && !piece.starts_with('*') {
                 self.put(word.as_str())?;
                 word.clear();

@@ -80,7 +80,7 @@ impl JsonRows {
         self.sealed = Some(count);
     }
 
-    /// Adds a row with the machine's state, and with a call if it was made.
+    /// Adds a row with the machine's state, and with the call if one was made.
     pub(crate) fn draw(
         &mut self,
         alloc: Global,
@@ -142,7 +142,8 @@ fn write_own_text(out: &mut String, names: &IndexSet<Text>, line: &Line) -> Resu
     }
 }
 
-/// Returns the text of a line's first row, or of the memory at boot.
+/// Returns the text of a line's first row, and `boot` for the memory at boot. Returns `None` for a
+/// later row of a line.
 fn row_text(number: u64, text: &Option<String>) -> Option<&str> {
     match text {
         Some(text) => Some(text.as_str()),

@@ -35,8 +35,8 @@ pub fn trace(alloc: Global, scenario: &Scenario, view: View) -> Result<String, A
     rows.into_joined_text(alloc)
 }
 
-/// Returns the rows of a scenario's trace as values, each with all memory blocks, whatever the
-/// width of the view. A text below a row is a row for each of its lines, without memory blocks.
+/// Returns the rows of a scenario's trace as values. A row of the memory has all memory blocks,
+/// whatever the width of the view. Each line of a text below a row is a row without memory blocks.
 pub fn trace_rows(
     alloc: Global,
     scenario: &Scenario,
@@ -48,9 +48,9 @@ pub fn trace_rows(
     Ok(rows.into_kept(alloc))
 }
 
-/// Returns the trace of a scenario as JSON: a line about the scenario, and then the rows of
-/// `trace_rows` for all lines, one per line. docs/LAB.md has the keys. Each row has the changes of
-/// the state since the row above it; a text below a row is a row without a state.
+/// Returns the trace of a scenario as JSON: a line about the scenario, and then one line for each
+/// row. The rows are those of all lines. docs/LAB.md has the keys. Each row has the changes of the
+/// state since the row above it; a text below a row is a row without a state.
 pub fn trace_json(alloc: Global, scenario: &Scenario) -> Result<String, AllocError>
     ensures { IfOk result (λ text. IsJsonOf (scenario_seen scenario.now) (string_bytes text)) }
 {
@@ -62,7 +62,7 @@ pub fn trace_json(alloc: Global, scenario: &Scenario) -> Result<String, AllocErr
     Ok(text)
 }
 
-/// Returns the rows of a scenario's trace, in a form.
+/// Returns the rows of a scenario's trace, in this form.
 fn trace_scenario(
     alloc: Global,
     scenario: &Scenario,
@@ -104,8 +104,8 @@ fn skipped(view: View, n: usize) -> usize
     }
 }
 
-/// Returns the first row, in a form: that of the memory at boot, or before the first line that may
-/// be shown.
+/// Returns the rows, in this form, that begin a trace: one row with the memory at boot, or before
+/// the first line that may be shown.
 pub(crate) fn start(
     alloc: Global,
     machine: &Machine,
@@ -131,7 +131,8 @@ fn start_text(alloc: Global, view: View) -> Result<String, AllocError>
     format!(in alloc; "     before line {from}")
 }
 
-/// Runs all lines, and draws the rows of those that are shown. `before` lines come before them.
+/// Runs all of these lines, and draws the rows of those that are shown. The scenario has `before`
+/// earlier lines.
 pub(crate) fn trace_lines(
     rows: &mut Rows,
     alloc: Global,

@@ -30,8 +30,8 @@ impl Model for LiveTrace {
 }
 
 impl LiveTrace {
-    /// Boots a scenario's machine and runs its lines, which are not drawn. The text is the row of
-    /// the memory after them, which `trace` has above the line that `view` begins with.
+    /// Boots a scenario's machine and runs its lines, whose rows are not drawn. The text is then
+    /// the first row of a trace in this view, with the memory after those lines.
     pub fn begin(alloc: Global, scenario: &Scenario, view: View) -> Result<LiveTrace, AllocError>
         ensures { IfOk result (IsBegun view (scenario_seen scenario.now)) }
     {
@@ -56,7 +56,7 @@ impl LiveTrace {
 
     /// Runs a line, and adds its rows to the text.
     ///
-    /// After an error some of it may have been run, and the text may lack rows.
+    /// After an error some of its calls may have been made, and the text may lack rows.
     pub fn run(
         &mut self,
         alloc: Global,
@@ -99,10 +99,11 @@ impl LiveTrace {
     }
 }
 
-/// Called for its contract: the first row, and the rows of the lines that follow a scenario, are
-/// all rows of the trace of the scenario with these lines at its end, in a view from the first of
-/// them on. Each line is read after the names of the lines before it. `trace` joins equal rounds of
-/// these rows.
+/// Called for its contract: the first row and the rows of the lines run after a scenario are the
+/// rows of a trace. It is the trace of the scenario with these lines at its end, in a view that
+/// begins with the first of them. Each of these lines is read given the owners' names of the lines
+/// before it. The rows have all rounds of a plan's calls; `trace` shows only the first of equal
+/// rounds.
 pub fn live_rows_are_the_trace()
     ensures { ShowTheTrace }
 {}

@@ -14,8 +14,8 @@ use hp_units::{CallFault, Cpu, Event, OpEnd, Plan, Receipt, Reply};
 use indexmap::IndexSet;
 use std::alloc::{AllocError, Global};
 
-/// A processor of a machine, and the rows of its calls. The port's receipts are the processor's
-/// records of the machine.
+/// A port, through which a plan's driver makes its calls: a processor of a machine, and the rows of
+/// the calls. The port's receipts are the machine's records of this processor.
 #[derive(Drop)]
 struct TracePort<'a> {
     machine: &'a mut Machine,
@@ -126,8 +126,8 @@ fn draw_step(rows: &mut Rows, alloc: Global, machine: &Machine, receipt: &Receip
     }
 }
 
-/// Returns an event of a plan's driver as a scenario spells it, below the plan's line. It accesses
-/// no page, so it needs no owner's name.
+/// Returns an event of a plan's driver as a scenario spells it, indented because it is below the
+/// plan's line. The event accesses no page, so its text needs no owner's name.
 fn step_text(alloc: Global, event: &Event) -> Result<String, AllocError>
     ensures { IfOk result (λ text. string_bytes text ≡ step_text event.now) }
 {
@@ -180,8 +180,8 @@ fn answer_text(alloc: Global, receipt: &Receipt) -> Result<String, AllocError>
     Ok(out)
 }
 
-/// Runs a plan's driver with at most `turns` migrations, with a row of the memory before it, a row
-/// for each of its calls, and how it ended.
+/// Runs a plan's driver with at most `turns` migrations. Adds a row of the memory before it, a row
+/// for each of its calls, and a text with how the plan ended.
 pub(crate) fn trace_plan(
     rows: &mut Rows,
     alloc: Global,

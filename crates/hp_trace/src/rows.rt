@@ -21,10 +21,10 @@ use std::alloc::{AllocError, Global};
 use std::marker::Model;
 use std::mem::replace;
 
-/// What becomes of the rows of a line.
+/// The form in which the rows of a line are kept.
 #[derive(Clone, Copy)]
 pub(crate) enum Form {
-    /// Nothing.
+    /// None: rows are dropped.
     Unseen,
     /// Text, each row as soon as it is drawn.
     Written,
@@ -43,7 +43,7 @@ pub(crate) struct Rows {
     form: Form,
     row_layout: RowLayout,
     text: String,
-    /// All rows as values, or for a text the last one.
+    /// In the form `Kept` all rows, and in a form of text the last row that was written.
     kept: Vec<RowPicture>,
     log: StateLog,
     json: JsonRows,
@@ -225,7 +225,7 @@ impl Rows {
         }
     }
 
-    /// Adds the events that lead to the memory of a row.
+    /// Adds the events that lead to the machine's memory to the log.
     fn log_row(&mut self, alloc: Global, machine: &Machine) -> Result<(), AllocError>
         ensures { OnOk result (IsRowLogged machine.now self.old self.new) }
     {
@@ -266,7 +266,7 @@ impl Rows {
         self.text.as_str()
     }
 
-    /// Empties the text. The next row is still written by the last one.
+    /// Empties the text. The last row is still known: the next one is written as a row below it.
     pub(crate) fn clear_text(&mut self)
         ensures { self.new ≡ record self.old { text = [] } }
     {

@@ -1,4 +1,4 @@
-//! What the log of a step depends on in a machine's memory.
+//! Snapshots of a machine's memory: all of it that the log of a step depends on.
 ghost use Rattle.std.specs.Prelude.{◌≡◌, ◌≤◌, ◌<◌, IfOk, map};
 ghost use Rattle.hp_units.specs.Arithmetic.{all_frames, frame_count};
 ghost use Rattle.hp_units.specs.LayoutParts.{IsLayout};
@@ -21,7 +21,8 @@ pub(crate) fn snapshot_of(alloc: Global, machine: &Machine) -> Result<Snapshot, 
     Ok(Snapshot::new(holders, rows))
 }
 
-/// Returns what holds the memory that starts at each frame.
+/// Returns, for each frame, the order of the kernel block that starts there, if any, and the page
+/// that is mapped to it, if any.
 #[tactic(auto, using(crate::proofs::SnapshotsTaken::one_more))]
 fn holders_of(alloc: Global, machine: &Machine) -> Result<Vec<FrameHolder>, AllocError>
     requires { IsWellPlaced machine.now.layout machine.now.state }
@@ -35,7 +36,8 @@ fn holders_of(alloc: Global, machine: &Machine) -> Result<Vec<FrameHolder>, Allo
     Ok(holders)
 }
 
-/// Returns what holds the memory that starts at a frame.
+/// Returns the order of the kernel block that starts at a frame, if any, and the page that is
+/// mapped to it, if any.
 fn holder_of(machine: &Machine, frame: Frame) -> FrameHolder
     requires placed { IsWellPlaced machine.now.layout machine.now.state }
     requires inside { frame < frame_count machine.now.layout }
@@ -44,7 +46,7 @@ fn holder_of(machine: &Machine, frame: Frame) -> FrameHolder
     FrameHolder::new(machine.kernel_at(frame), machine.pages().page_at(frame))
 }
 
-/// Returns the row of each memory block.
+/// Returns the row of each memory block: its state, its zone, and the operation that claims it.
 #[tactic(auto, using(crate::proofs::SnapshotsTaken::take_none, crate::proofs::SnapshotsTaken::take_one))]
 fn rows_of(alloc: Global, machine: &Machine) -> Result<Vec<Row>, AllocError>
     requires { IsWellPlaced machine.now.layout machine.now.state }
@@ -55,7 +57,7 @@ fn rows_of(alloc: Global, machine: &Machine) -> Result<Vec<Row>, AllocError>
         let Some(row) = machine.row(Block(number)) else {
             continue;
         };
-        // No effect at run time: the proof has to be told of the type of a claim.
+        // No effect at run time: the proof needs the type of a claim.
         let claim: Option<Claim> = row.claim;
         rows.push(Row { claim, ..row })?;
     }

@@ -27,7 +27,7 @@ impl Model for StateLog {
 }
 
 impl StateLog {
-    /// Creates a log before any state.
+    /// Creates an empty log: no state was seen.
     pub(crate) fn new(alloc: Global) -> StateLog
         ensures { result ≡ no_log }
     {

@@ -1,5 +1,5 @@
--- The changes that a row reports: each part of the state that differs from the row above, and nothing
--- else.
+-- The changes that a row reports: each part of the state that differs from the row above, and
+-- nothing else.
 use Rattle.std.specs.Prelude.{ℕ, ◌≡◌, ◌+◌, ◌*◌, ◌==◌, ◌&&◌, Bool, List, Option, Some, None, ◌≢◌, ◌⊎◌}
 use Rattle.hp_units.specs.Arithmetic.{frame_count, pageblock_count}
 use Rattle.hp_units.specs.declared.rows.Auto.{Auto}

@@ -36,7 +36,8 @@ abbrev pub unmovable_in : Option Pictured → (pageblock : ℕ) → Bool
 unmovable_in None pageblock = false
 unmovable_in (Some p) pageblock = is_unmovable (slice_get p.memory.free.areas.kinds pageblock)
 
--- the free list with this number, front first; its number is 5 times the order plus the class's number
+-- the free list with this number, front first; its number is 5 times the order plus the class's
+-- number
 abbrev pub free_list_at : Option Pictured → (number : ℕ) → List ℕ
 free_list_at None number = []
 free_list_at (Some p) number = slice_index_or p.memory.free.areas.lists number []

@@ -1,7 +1,8 @@
 -- The change of one list into another.
 use Rattle.std.specs.Prelude.{ℕ, ◌≡◌, ◌≢◌, ◌+◌, ◌-◌, ◌<◌, ◌≤◌, List, ◌++◌, drop, length, slice_get, take}
 
--- a change of a list: from index `at` on, `gone` entries are removed and the entries `put` are inserted
+-- a change of a list: from index `at` on, `gone` entries are removed and the entries `put` are
+-- inserted
 pub record SpliceValue : Type 0 where
   pub at : ℕ
   pub gone : ℕ
@@ -34,8 +35,8 @@ is_last_end was now start n =
     × (start + n < length was → start + n < length now
     → slice_get was (length was - 1 - n) ≢ slice_get now (length now - 1 - n))
 
--- the splice turns the first list into the second, and leaves out the entries that both have in common
--- at their beginnings and at their ends
+-- the splice turns the first list into the second, and leaves out the entries that both have in
+-- common at their beginnings and at their ends
 pub record IsSplice (was now : List ℕ) (s : SpliceValue) : Type 0 where
   pub leads : spliced s was ≡ now
   pub begins : is_last_start was now s.at

@@ -1,10 +1,10 @@
--- The entries that report a part of a state, which has a value for each key. A key whose value changed
--- has one entry, from its value before to its value now; every other key has none.
+-- A part of a state has a value for each key, and entries report how the part changed. A key whose
+-- value changed has one entry, from its value before to its value now; every other key has none.
 use Rattle.std.specs.Prelude.{ℕ, ◌≡◌, ◌≢◌, ◌⊎◌, ◌<◌, ◌≤◌, Bool, List, [], ◌∷◌, ◌++◌}
 use Rattle.std.specs.List.{filter}
 
--- the entries of one key, which `is` selects: none if its value did not change, or else one, of
--- which `Sets` holds
+-- the entries about one key, which `is` selects. If the key's value did not change, there is none;
+-- otherwise there is one, and `Sets was now` holds of it
 abbrev pub Tells : {T V : Type 0} → (is : T → Bool) → (Sets : V → V → T → Type 0) → (was now : V) → List T
     → Type 0
 Tells is Sets was now told =
@@ -19,7 +19,7 @@ IsSilent is told = filter is told ≡ []
 abbrev pub TellsBelow : {T : Type 0} → (Said Silent : ℕ → List T → Type 0) → (n : ℕ) → List T → Type 0
 TellsBelow Said Silent n told = (k : ℕ) → (k < n → Said k told) × (n ≤ k → Silent k told)
 
--- an entry of the key is added if the values differ
+-- if the values differ, an entry is added, of which `Is` and `Sets was now` hold
 abbrev pub AddsIf : {T V : Type 0} → (Is : T → Type 0) → (Sets : V → V → T → Type 0) → (was now : V)
     → (old new : List T) → Type 0
 AddsIf Is Sets was now old new =

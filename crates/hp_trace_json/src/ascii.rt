@@ -15,7 +15,8 @@ pub(crate) fn write_line(out: &mut String, json: &str) -> Result<(), AllocError>
     out.push('\n')
 }
 
-/// Writes characters, and those that are not plain as escapes.
+/// Writes characters. Those that are not plain (printable ASCII other than `<`) are written as
+/// escapes.
 fn write_plain(out: &mut String, json: &str) -> Result<(), AllocError>
     ensures { OnOk result (AddsPlain (string_bytes out.old) (string_bytes out.new)) }
 {

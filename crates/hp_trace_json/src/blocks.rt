@@ -14,7 +14,7 @@ use std::alloc::{AllocError, Global};
 pub struct BlockNow {
     /// The memory block.
     pub block: Block,
-    /// Its row.
+    /// Its row now: its state, its zone, and the operation that holds it.
     pub row: Option<Row>,
 }
 
@@ -43,7 +43,7 @@ pub(crate) fn blocks_told(
     Ok(told)
 }
 
-/// Adds a memory block if its rows differ.
+/// Adds a memory block if its row changed.
 fn tell_block(
     told: &mut Vec<BlockNow>,
     block: Block,
@@ -58,7 +58,7 @@ fn tell_block(
     Ok(())
 }
 
-/// Returns the row of a memory block, if there is a state.
+/// Returns the row of a memory block in a state, or `None` without a state.
 fn row_in(state: &Option<Image>, block: Block) -> Option<Row>
     ensures { result ≡ row_in state.now block }
 {
@@ -93,7 +93,7 @@ pub(crate) fn pageblocks_told(
     Ok(told)
 }
 
-/// Adds a pageblock if its mobilities differ.
+/// Adds a pageblock if its mobility changed.
 fn tell_pageblock(
     told: &mut Vec<PageblockNow>,
     pageblock: Pageblock,
@@ -112,7 +112,7 @@ fn tell_pageblock(
     Ok(())
 }
 
-/// Returns whether there is a state in which the pageblock is unmovable.
+/// Returns whether the pageblock is unmovable in a state; false if there is no state.
 fn unmovable_in(state: &Option<Image>, pageblock: Pageblock) -> bool
     ensures { result ≡ unmovable_in state.now pageblock }
 {

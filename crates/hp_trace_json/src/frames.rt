@@ -51,7 +51,7 @@ pub(crate) fn kernel_told(
     Ok(told)
 }
 
-/// Adds a frame if the kernel's blocks there differ.
+/// Adds a frame if the order of the kernel's block that starts there changed.
 fn tell_kernel(
     told: &mut Vec<KernelNow>,
     frame: Frame,
@@ -66,7 +66,8 @@ fn tell_kernel(
     Ok(())
 }
 
-/// Returns the order of the kernel's block that starts at a frame, if there is a state.
+/// Returns the order of the kernel's block that starts at a frame, if there is a state and such a
+/// block.
 fn kernel_in(state: &Option<Image>, frame: Frame) -> Option<Order>
     ensures { result ≡ kernel_in state.now frame }
 {
@@ -113,7 +114,7 @@ fn owners_pages_told(
     Ok(told)
 }
 
-/// Adds a page if its frames differ.
+/// Adds a page if its frame changed.
 fn tell_page(
     told: &mut Vec<PageNow>,
     owner: Owner,

@@ -1,11 +1,11 @@
 //! The rows of a trace as JSON: a line for each row, with how the state differs from the row above.
 //!
-//! The crate owns what a row reports of a state (`StateChange`), what is stored of the rows above
-//! (`SeenState`), and the text. It runs nothing: its caller makes the calls and passes the machine
-//! after each.
+//! The crate defines what a row reports of a state (`StateChange`), what is stored of the rows
+//! above (`SeenState`), and the text. It runs nothing: its caller makes the calls and passes the
+//! machine after each.
 //!
-//! Read specs/Told first, then specs/Changes: a reader that follows the rows has the machine's
-//! state, and gets nothing that stayed the same. Each row is one line of printable ASCII without
+//! Read specs/Told first, then specs/Changes. A program that follows the rows knows the machine's
+//! state, and no row repeats what stayed the same. Each row is one line of printable ASCII without
 //! `<`. The text of a row is tested.
 #![tactic(auto)]
 

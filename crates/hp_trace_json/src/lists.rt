@@ -15,7 +15,7 @@ use std::alloc::{AllocError, Global};
 pub struct FreeListNow {
     /// The class of its blocks.
     pub class: Class,
-    /// Their order.
+    /// The order of its blocks.
     pub order: Order,
     /// How it changed.
     pub splice: Splice,
@@ -58,7 +58,7 @@ pub(crate) fn free_lists_told(
     Ok(told)
 }
 
-/// Adds a free list if it differs.
+/// Adds a free list if it changed.
 fn tell_free_list(
     told: &mut Vec<FreeListNow>,
     alloc: Global,
@@ -82,7 +82,7 @@ fn tell_free_list(
     Ok(())
 }
 
-/// Returns a free list, if there is a state.
+/// Returns a free list of a state; the empty list if there is no state.
 fn free_list_in(state: &Option<Image>, class: Class, order: Order) -> &[Frame]
     ensures { result.now ≡ free_list_at state.now (5 * order + class_index class) }
 {
@@ -117,7 +117,7 @@ pub(crate) fn cpu_lists_told(
     Ok(told)
 }
 
-/// Adds a processor's list if it differs.
+/// Adds a processor's list if it changed.
 fn tell_cpu_list(
     told: &mut Vec<CpuListNow>,
     alloc: Global,
@@ -137,7 +137,7 @@ fn tell_cpu_list(
     Ok(())
 }
 
-/// Returns a processor's list, if there is a state.
+/// Returns a processor's list in a state; the empty list if there is no state.
 fn cpu_list_in(state: &Option<Image>, cpu: Cpu, pool: Pool) -> &[Frame]
     ensures { result.now ≡ cpu_list_at state.now (3 * cpu + pool_index pool) }
 {

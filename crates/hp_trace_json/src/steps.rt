@@ -37,8 +37,8 @@ impl NetSerials {
         self.serials.len()
     }
 
-    /// Updates the list after a call that leaves `count` steps, and returns the steps that the call
-    /// dropped. If there is one more step than before, it is the call's.
+    /// Updates the list after the call with this serial, after which `count` steps are not undone.
+    /// Adds the serial if that is more steps than before. Returns the steps that the call dropped.
     pub fn follow(
         &mut self,
         alloc: Global,

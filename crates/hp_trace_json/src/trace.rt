@@ -51,7 +51,7 @@ impl Model for JsonTrace {
 }
 
 impl JsonTrace {
-    /// Makes a trace without rows.
+    /// Creates a trace without rows.
     pub fn new(alloc: Global) -> JsonTrace
         ensures { result ≡ no_trace }
     {

@@ -90,7 +90,7 @@ fn pages_words_told(
     Ok(told)
 }
 
-/// Adds a word if it differs.
+/// Adds a word if it changed.
 fn tell_word(
     told: &mut Vec<WordNow>,
     owner: Owner,
@@ -120,7 +120,7 @@ fn word_of(words: &[u64], index: u32) -> u64
     words.get(index as usize).copied().unwrap_or(0)
 }
 
-/// Returns the words of a page, if there is a state and the page is mapped.
+/// Returns the words of a page; none if there is no state or the page is not mapped.
 fn words_in(state: &Option<Image>, owner: Owner, page: Page) -> &[u64]
     ensures { result.now ≡ words_in state.now owner page }
 {
@@ -130,7 +130,7 @@ fn words_in(state: &Option<Image>, owner: Owner, page: Page) -> &[u64]
     }
 }
 
-/// Returns the words of a page, if it is mapped.
+/// Returns the words of a page; none if it is not mapped.
 fn words_of(image: &Image, owner: Owner, page: Page) -> &[u64]
     ensures { result.now ≡ words_in (Some image.now) owner page }
 {

@@ -1,7 +1,7 @@
 //! The JSON of the head and of the rows.
 //!
-//! A change alone is an object of JSON (specs/ChangeObjects). Of the other texts nothing is promised
-//! but that writing them is safe: they are tested.
+//! The contract of `change_object` says that it returns an object of JSON (specs/ChangeObjects).
+//! The texts of heads and rows have no such contract; they are tested.
 mod change_objects;
 mod changes;
 mod deltas;

@@ -1,4 +1,5 @@
--- Owners' contents by the net alone, and the frame that a record hands out.
+-- The words of owners' pages, from the net alone (the steps that are not dropped), and the frame
+-- that a record hands out.
 use Rattle.std.specs.Prelude.{ℕ, List, Option, Some, None, fold, slice_set}
 use Rattle.std.specs.Option.{option_map}
 use Rattle.hp_numbers.specs.Numbers.{Frame}
@@ -7,7 +8,8 @@ use Rattle.hp_units.specs.LayoutParts.{LayoutParts}
 use Rattle.hp_units.specs.Memory.{Memory, entry_of, with_entry}
 use Rattle.hp_units.specs.Pages.{frame_at, fresh_words}
 
--- the contents after an event: zeros by Map, none by Unmap, one word by Write
+-- the contents after an event: zeros by Map, none by Unmap, one word changed by Write; any other
+-- event leaves them as they are
 abbrev pub contents_after : LayoutParts → List (List (Option (List ℕ))) → Event
     → List (List (Option (List ℕ)))
 contents_after l contents (Map owner page) = with_entry contents owner page (Some (fresh_words l))
@@ -17,12 +19,13 @@ contents_after l contents (Write owner page index value) =
     (option_map (λ words. slice_set words index value) (entry_of contents owner page))
 contents_after l contents event = contents
 
--- the contents after the steps of a net, from those of the base state
+-- the contents after the steps of a net, starting from `contents`, those of the base state
 abbrev pub contents_of_net : LayoutParts → List (List (Option (List ℕ))) → List Record
     → List (List (Option (List ℕ)))
 contents_of_net l contents net = fold (λ c r. contents_after l c r.event) contents net
 
--- the frame that a record hands out, given the state after it
+-- the frame that a record hands out, or the first frame of a kernel block; `after` is the state
+-- after the record
 abbrev pub handed_by_reply : Memory → Event → Reply → Option Frame
 handed_by_reply after event (GivesFrame frame) = Some frame
 handed_by_reply after event (Moved from to) = Some to

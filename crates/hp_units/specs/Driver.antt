@@ -23,8 +23,9 @@ abbrev pub next_drain : (cpus turns : ℕ) (op : Serial) (cpu : Cpu) → List Re
 next_drain cpus turns op cpu receipts =
     if nat_lt cpu cpus then DrainFor op cpu else migrate_or_cancel turns op receipts
 
--- the event after a call and its reply, if the run goes on: after Opened, NoFrame and NotFree a
--- round of drains; after a full round and after Moved a migration; after NothingToMove a commit
+-- the event after a call and its reply; None if the run ends. A round of drains follows Opened,
+-- NoFrame and NotFree. A migration follows a full round and Moved, or a cancel once `turns`
+-- migrations were tried. A commit follows NothingToMove
 abbrev pub next_after : (cpus turns : ℕ) → List Receipt → Event → Reply → Option Event
 next_after cpus turns receipts (Begin plan) (Opened op) = Some (next_drain cpus turns op 0 receipts)
 next_after cpus turns receipts (DrainFor op cpu) Done = Some (next_drain cpus turns op (cpu + 1) receipts)
@@ -35,7 +36,7 @@ next_after cpus turns receipts (Commit op) (Refused (NotFree frame)) =
     Some (next_drain cpus turns op 0 receipts)
 next_after cpus turns receipts event reply = None
 
--- the event after the receipts so far
+-- the event after the receipts so far: the Begin if there are none, and None if the run has ended
 abbrev pub next_event : (cpus turns : ℕ) → List Item → List Receipt → Option Event
 next_event cpus turns plan receipts =
     option_map_or (λ r. next_after cpus turns receipts r.event r.reply) (last_or None receipts)
@@ -77,8 +78,8 @@ AllNext cpus turns plan earlier [] = Unit {0}
 AllNext cpus turns plan earlier (r ∷ rs) =
     (next_event cpus turns plan earlier ≡ Some r.event) × AllNext cpus turns plan (earlier ++ r ∷ []) rs
 
--- the end that follows from the receipts and the last call's fault; a fault means that an event was
--- still to come
+-- the end follows from the receipts and the last call's fault. There is a fault if and only if
+-- another event was still to come
 abbrev pub Ends : List Receipt → Option Event → Option CallFault → OpEnd → Type 0
 Ends receipts (Some event) (Some fault) end = end ≡ EndsLeft (operation_of receipts) fault
 Ends receipts (Some event) None end = ⊥

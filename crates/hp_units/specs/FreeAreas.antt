@@ -57,16 +57,16 @@ greatest_order a class first zero = None
 greatest_order a class first (suc count) =
     order_or (free_list a class (first + count)) (first + count) (greatest_order a class first count)
 
--- the areas with the upper halves that are left when a block is split down by `count` orders to the
--- order `last`: one half at each of these orders, at the front of its list (Knuth, volume 1,
+-- the areas with the upper halves that are left when a block is split by `count` orders, down to
+-- the order `last`. There is one half at each order, at the front of its list (Knuth, volume 1,
 -- section 2.5, reservation)
 abbrev pub with_halves : FreeAreas → Class → (frame : Frame) (last : Order) (count : ℕ) → FreeAreas
 with_halves a class frame last zero = a
 with_halves a class frame last (suc count) =
     with_front (with_halves a class frame (suc last) count) class last (frame + 2 ^ last)
 
--- the first of these frames leaves a class's list, and the halves of its block above the wanted
--- order go to the lists of the class `rest`
+-- the first of these frames leaves the list of its class, and its block is split down to the wanted
+-- order. The halves that are left go to the lists of the class `rest`. None if there is no frame
 abbrev pub take_first : FreeAreas → (class rest : Class) → (order wanted : Order) → List Frame → Option Taken
 take_first a class rest order wanted [] = None
 take_first a class rest order wanted (frame ∷ frames) =
@@ -88,7 +88,7 @@ take_block l a class wanted =
     (least_order a class wanted (l.order + 1 - wanted))
 
 -- the order up to which a free block joins, looking at `count` orders: the least at which its buddy
--- is not free, or else the last (Knuth, volume 1, section 2.5, liberation)
+-- is not free in this class, or else the last (Knuth, volume 1, section 2.5, liberation)
 abbrev pub join_order : FreeAreas → Class → (frame : Frame) (order : Order) (count : ℕ) → Order
 join_order a class frame order zero = order
 join_order a class frame order (suc count) =

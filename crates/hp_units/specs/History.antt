@@ -11,7 +11,8 @@ use Rattle.hp_units.specs.Step.{step}
 
 -- ---- what an event does to the list of steps
 
--- an event only reads, undoes the steps above a serial, cancels an operation, or is a step
+-- what an event does to the list of steps: it only reads, undoes the steps above a serial, cancels
+-- an operation, or adds a step
 pub data Effect : Type 0 where
   Looks : Effect
   Undoes : (serial : Serial) → Effect
@@ -53,24 +54,25 @@ steps_until serial net = filter (λ r. nat_le r.serial serial) net
 unfoldable pub count_above : Serial → List Record → ℕ
 count_above serial net = count_by (λ r. nat_lt serial r.serial) net
 
--- the steps before this index; with one more if there is no such index
+-- the steps before this index; without an index, all steps and then one more
 abbrev pub cut_or_add : List Record → Record → Option ℕ → List Record
 cut_or_add net r (Some place) = take place net
 cut_or_add net r None = net ++ r ∷ []
 
--- the net after one more record that was not refused, by its effect. A Cancel of a sole operation
--- drops the operation's steps
+-- the net after one more record that was not refused, by its effect. A Cancel drops the operation's
+-- Begin and the later steps if these are all drains and migrations of the operation. Otherwise the
+-- Cancel is itself a step
 abbrev pub net_with_effect : List Record → Record → Effect → List Record
 net_with_effect net r Looks = net
 net_with_effect net r (Undoes serial) = steps_until serial net
 net_with_effect net r (Cancels op) = cut_or_add net r (sole_at op (map tag_of net))
 net_with_effect net r Acts = net ++ r ∷ []
 
--- the net after one more record
+-- the net (the steps that are not dropped) after one more record; a refused one changes nothing
 unfoldable pub net_with : List Record → Record → List Record
 net_with net r = if is_refused r.reply then net else net_with_effect net r (effect_of r.event)
 
--- the steps that are not dropped by the end of the history
+-- the steps of a history that are not dropped at its end
 unfoldable pub net_of : List Record → List Record
 net_of history = fold net_with [] history
 
@@ -86,13 +88,14 @@ value_of l base history = run l base (net_of history)
 
 -- ---- which histories are possible
 
--- the reply to a Cancel: Restored if it is not refused and its operation is sole
+-- the reply to a Cancel. It is Restored if the Cancel is not refused and nothing but the
+-- operation's own work follows its Begin
 abbrev pub cancel_reply : Reply → Option ℕ → Reply
 cancel_reply reply None = reply
 cancel_reply reply (Some place) = if is_refused reply then reply else Restored
 
--- the reply to an undo of the steps above a serial, given the number of earlier records and the
--- last serial
+-- the reply to an undo of the steps above a serial. `before` is the number of records before the
+-- base state, `last` the last serial
 abbrev pub undo_reply : (before last : Serial) → List Record → Serial → Reply
 undo_reply before last net serial =
     if nat_lt last serial || nat_lt serial before then Refused Gone else Undone (count_above serial net)

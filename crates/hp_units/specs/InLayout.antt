@@ -1,5 +1,5 @@
--- The numbers in a state are within its layout. Each operation requires this of its state, and it
--- is so in every well placed state.
+-- The numbers in a state are within its layout. The functions on a state require this, and it holds
+-- of every well placed state (specs/Placement).
 use Rattle.std.specs.Prelude.{◌≡◌, ◌+◌, ◌*◌, ◌^◌, ◌≤◌, true, List, Option, None, length, slice_index_or, IfSome}
 use Rattle.std.specs.List.{AllByRecursion}
 use Rattle.hp_numbers.specs.Numbers.{Frame, Order, Cpu, Owner, Page}
@@ -17,15 +17,16 @@ pub record AreFreeAreasOf (l : LayoutParts) (a : FreeAreas) : Type 0 where
   pub free : (class : Class) (order : Order) (first : Frame) → is_on first (free_list a class order) ≡ true
       → first + 2 ^ order ≤ frame_count l
 
--- in addition, three lists of frames per processor
+-- the free areas are within the layout, there are three lists of frames per processor, and each
+-- frame on them is one of the layout
 pub record AreFreeFramesOf (l : LayoutParts) (fs : FreeFrames) : Type 0 where
   pub areas : AreFreeAreasOf l fs.areas
   pub lists : length fs.cached ≡ 3 * l.cpus
   pub cached : (cpu : Cpu) (pool : Pool) (frame : Frame) → is_on frame (cached_list fs cpu pool) ≡ true
       → IsFrame l frame
 
--- each owner has the layout's number of pages, each at a frame and with the layout's number of
--- words
+-- there is an entry for each owner and page of the layout. A page that has a frame has one of the
+-- layout, and a page that has words has as many as the layout says
 pub record ArePagesOf (l : LayoutParts) (ps : Pages) : Type 0 where
   pub owners : length ps.table ≡ l.owners
   pub pages : AllByRecursion (λ row. length row ≡ l.pages) ps.table
@@ -35,7 +36,7 @@ pub record ArePagesOf (l : LayoutParts) (ps : Pages) : Type 0 where
   pub words : (owner : Owner) (page : Page)
       → IfSome (words_at ps owner page) (λ words. length words ≡ l.words)
 
--- kernel blocks have orders of the layout
+-- there is an entry per frame, and kernel blocks have orders of the layout
 pub record AreKernelBlocksOf (l : LayoutParts) (kernel : List (Option Order)) : Type 0 where
   pub frames : length kernel ≡ frame_count l
   pub orders : (first : Frame) → IfSome (slice_index_or kernel first None) (λ order. order ≤ l.order)
@@ -44,7 +45,7 @@ pub record AreKernelBlocksOf (l : LayoutParts) (kernel : List (Option Order)) : 
 pub record AreBlocksOf (l : LayoutParts) (bs : Blocks) : Type 0 where
   pub rows : length bs.rows ≡ l.blocks
 
--- all parts of the state
+-- all parts of the state are within the layout
 pub record IsMemoryOf (l : LayoutParts) (s : Memory) : Type 0 where
   pub free : AreFreeFramesOf l s.free
   pub pages : ArePagesOf l s.pages

@@ -7,7 +7,8 @@ use Rattle.hp_units.specs.Arithmetic.{pageblock_size, pageblock_of, pageblocks_o
 use Rattle.hp_units.specs.Memory.{FreeAreas, free_list, with_free_list, kind_of, with_kind, plain_kind, usable_class, isolated_class}
 use Rattle.hp_units.specs.FreeAreas.{is_on, class_of_kind, with_back, without_free}
 
--- a pageblock's free blocks of one order move, in rising order, to the back of another class's list
+-- a pageblock's free blocks of one order move, lowest frame first, to the back of another class's
+-- list
 abbrev pub move_free : LayoutParts → FreeAreas → (from to : Class) → (pageblock : Pageblock) (order : Order)
     → FreeAreas
 move_free l a from to pageblock order =
@@ -17,7 +18,7 @@ move_free l a from to pageblock order =
     with_free_list left to order
     (free_list left to order ++ filter (λ frame. is_on frame frames) (frames_of_pageblock l pageblock))
 
--- the same at each order below this one
+-- a pageblock's free blocks of each order below this one move to the lists of another class
 abbrev pub move_free_below : LayoutParts → FreeAreas → (from to : Class)
     → (pageblock : Pageblock) (order : Order) → FreeAreas
 move_free_below l a from to pageblock zero = a
@@ -33,11 +34,11 @@ move_pageblock l zone isolated a pageblock =
     with_kind (move_free_below l a (class_of_kind zone kind) (class_of_kind zone moved) pageblock
     (l.order + 1)) pageblock moved
 
--- the same for each pageblock of a memory block, in rising order
+-- each pageblock of a memory block, in rising order, becomes isolated or usable again
 abbrev pub move_block : LayoutParts → Zone → Bool → FreeAreas → Block → FreeAreas
 move_block l zone isolated a block = fold (move_pageblock l zone isolated) a (pageblocks_of l block)
 
--- a whole pageblock goes to the back of its zone's list
+-- a whole pageblock becomes a free block at the back of its zone's list of movable blocks
 abbrev pub add_pageblock : LayoutParts → Zone → FreeAreas → Pageblock → FreeAreas
 add_pageblock l zone a pageblock =
     with_back a (usable_class zone Movable) l.order (pageblock * pageblock_size l)
@@ -45,8 +46,8 @@ add_pageblock l zone a pageblock =
 abbrev pub add_block : LayoutParts → Zone → FreeAreas → Block → FreeAreas
 add_block l zone a block = fold (add_pageblock l zone) a (pageblocks_of l block)
 
--- an isolated pageblock that is one free block leaves the areas (Linux, memory hotplug: offlining
--- removes the free pages from the allocator)
+-- an isolated pageblock that is one free block leaves the areas, and has the kind of an offline
+-- one. (Linux, memory hotplug: offlining removes the free pages from the allocator)
 abbrev pub remove_pageblock : LayoutParts → Zone → FreeAreas → Pageblock → FreeAreas
 remove_pageblock l zone a pageblock =
     with_kind (without_free a (isolated_class zone) l.order (pageblock * pageblock_size l)) pageblock

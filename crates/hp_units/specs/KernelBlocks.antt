@@ -8,8 +8,8 @@ use Rattle.hp_units.specs.Memory.{FreeFrames}
 use Rattle.hp_units.specs.FreeAreas.{take_block, steal_block}
 use Rattle.hp_units.specs.ProcessorLists.{Handed, handed_from, kernel_frame}
 
--- a kernel block: at order 0 from the processor's list, at a greater order straight from the areas
--- (Gorman, chapter 6)
+-- a kernel block: at order 0 a frame from the processor's list, or else a stolen one; at a greater
+-- order straight from the areas, or else stolen (Gorman, chapter 6)
 abbrev pub kernel_block : LayoutParts → FreeFrames → (cpu : Cpu) (order : Order) → Option Handed
 kernel_block l fs cpu zero = kernel_frame l fs cpu
 kernel_block l fs cpu (suc below) =

@@ -28,7 +28,8 @@ pub record Blocks : Type 0 where
   pub rows : List Row
   pub auto : Auto
 
--- the whole state; `kernel` has by frame the order of the kernel block that starts there
+-- the whole state; `kernel` has, for each frame, the order of the kernel block that starts there,
+-- if any
 pub record Memory : Type 0 where
   pub free : FreeFrames
   pub pages : Pages

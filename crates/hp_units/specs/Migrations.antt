@@ -1,4 +1,5 @@
--- From which frame a page of an operation's going blocks moves, and to which.
+-- From which frame a page moves out of the blocks that an operation is taking offline, and to
+-- which.
 use Rattle.std.specs.Prelude.{Option, find, flat_map, is_some}
 use Rattle.std.specs.Option.{option_or}
 use Rattle.hp_numbers.specs.Numbers.{Frame, Serial}
@@ -10,7 +11,7 @@ use Rattle.hp_units.specs.FreeAreas.{Taken, take_block, steal_block}
 use Rattle.hp_units.specs.Pages.{page_at}
 use Rattle.hp_units.specs.Rows.{going_blocks}
 
--- the lowest mapped frame of an operation's going blocks
+-- the lowest mapped frame of the blocks that an operation is taking offline
 abbrev pub migration_source : LayoutParts → Memory → Serial → Option Frame
 migration_source l s op =
     find (λ frame. is_some (page_at s.pages frame))

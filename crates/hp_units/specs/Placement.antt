@@ -90,13 +90,15 @@ abbrev pub pool_at : LayoutParts → List Kind → List Row → Pageblock → Op
 pool_at l kinds rows pageblock =
     option_map (λ zone. pool_of zone (kind_at kinds pageblock).mobility) (row_at l rows pageblock).zone
 
--- a free block of this class and order
+-- a valid free block of this class and order: it starts at a multiple of its size, and its class is
+-- that of its pageblock
 pub record IsBlockOf (l : LayoutParts) (class_at : Pageblock → Option Class) (class : Class) (order : Order)
     (first : Frame) : Type 0 where
   pub aligned : first % 2 ^ order ≡ 0
   pub class_agrees : class_at (pageblock_of l first) ≡ Some class
 
--- a kernel block
+-- a valid kernel block: its order is in the layout, it starts at a multiple of its size, and it is
+-- in zone Normal
 pub record IsKernelAt (l : LayoutParts) (rows : List Row) (first : Frame) (order : Order) : Type 0 where
   pub in_order : order ≤ l.order
   pub aligned : first % 2 ^ order ≡ 0
@@ -125,7 +127,8 @@ IsPage l (Some frame) (Some words) = length words ≡ l.words
 
 -- ---- well placed states
 
--- the parts of a state agree, and each list is as it must be
+-- the parts of a state agree: free blocks are in the lists of their class, and no two buddies are
+-- on one list below the greatest order. Rows, kinds, kernel blocks and pages are valid
 pub record IsInOrder (l : LayoutParts) (s : Memory) : Type 0 where
   pub shape : IsShaped l s
   pub blocks : (class : Class) (order : Order) (first : Frame)

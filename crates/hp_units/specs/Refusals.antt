@@ -35,7 +35,7 @@ is_all_free l s block =
     (free_list s.free.areas (isolated_class (zone_of_block s.blocks block)) l.order)) (pageblocks_of l
     block)
 
--- the lowest frame of an operation's going blocks that is in no free block
+-- the lowest frame, of the blocks that an operation is taking offline, that is in no free block
 abbrev pub frame_in_use : LayoutParts → Memory → Serial → Option Frame
 frame_in_use l s op =
     find (λ frame. not (is_in_free_block l s.free.areas frame))
@@ -71,20 +71,21 @@ plan_refusals l s plan =
 
 -- ---- the refusals that several events share
 
--- for an owner or a page that does not exist, followed by others
+-- the refusals for an owner or a page that does not exist, and then the given others
 abbrev pub page_refusals : LayoutParts → (owner : Owner) (page : Page) → List (Option Refusal)
     → List (Option Refusal)
 page_refusals l owner page others =
     then_some (nat_le l.owners owner) NoOwner ∷ then_some (nat_le l.pages page) NoPage ∷ others
 
--- for a word that is to be read or written
+-- the refusals of a Read or a Write of a word
 abbrev pub word_refusals : LayoutParts → Memory → (owner : Owner) (page : Page) (index : ℕ)
     → List (Option Refusal)
 word_refusals l s owner page index =
     page_refusals l owner page
     (then_some (nat_le l.words index) NoWord ∷ unless_some (frame_at s.pages owner page) NotMapped ∷ [])
 
--- for a memory block that is to go online or to be removed: it must be offline, with no claim
+-- the refusals for a memory block that is to go online or to be removed: it must be offline, with
+-- no claim
 abbrev pub offline_refusals : LayoutParts → Memory → Block → List (Option Refusal)
 offline_refusals l s block =
     then_some (nat_le l.blocks block) NoBlock ∷ then_some (is_claimed (row_of s.blocks block)) (Busy block)

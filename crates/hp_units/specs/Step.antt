@@ -38,8 +38,8 @@ kernel_takes l s cpu order =
     })
     (kernel_block l s.free cpu order) (done s)
 
--- a block comes back: a single frame by way of the processor's list, any other straight to the
--- areas (Gorman, chapter 6)
+-- a block comes back: a single frame by way of the processor's list unless its pageblock is
+-- isolated, any other straight to the areas (Gorman, chapter 6)
 abbrev pub give_back : LayoutParts → Memory → (cpu : Cpu) (frame : Frame) (order : Order) → Memory
 give_back l s cpu frame zero = with_free s (put_one l s.free cpu (zone_of l s frame) frame)
 give_back l s cpu frame (suc below) =
@@ -50,7 +50,7 @@ kernel_gives l s cpu frame =
     option_map_or (λ order. done (give_back l (with_kernel_order s frame None) cpu frame order))
     (kernel_order s frame) (done s)
 
--- a page is mapped, filled with zeros; and unmapped
+-- a page gets a frame and is filled with zeros; a page is unmapped, and its frame comes back
 unfoldable pub map_step : LayoutParts → Memory → (cpu : Cpu) (owner : Owner) (page : Page) → Answered
 map_step l s cpu owner page =
     option_map_or (λ handed.
@@ -62,8 +62,9 @@ unmap_step l s cpu owner page =
     option_map_or (λ frame. done (give_back l (with_pages s (unmap_page s.pages owner page)) cpu frame 0))
     (frame_at s.pages owner page) (done s)
 
--- the page at the lowest mapped frame of the operation's going blocks moves to a frame straight
--- from the areas, and its old frame goes straight back to them (Linux, memory hotplug: migration)
+-- the page at the lowest mapped frame of the blocks that the operation is taking offline moves to a
+-- frame straight from the areas. Its old frame goes straight back to them (Linux, memory hotplug:
+-- migration)
 unfoldable pub migrate_step : LayoutParts → Memory → Serial → Answered
 migrate_step l s op =
     option_map_or (λ from. option_map_or (λ taken. record {

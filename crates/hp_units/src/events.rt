@@ -14,8 +14,9 @@ use std::alloc::{AllocError, Global};
 /// an UndoAfter, and for a Cancel that restores.
 #[derive(PartialEq, Drop)]
 pub enum Event {
-    /// Takes a block of 2^order frames for the kernel: from the processor's list if the order is 0,
-    /// otherwise from the free areas (Gorman, chapter 6). The reply is its first frame.
+    /// Takes a block of 2^order frames for the kernel (Gorman, chapter 6). A single frame comes
+    /// from the calling processor's list, unless that list is empty and cannot be refilled. Any
+    /// other block comes from the free areas. The reply is the block's first frame.
     KernelAlloc {
         order: Order,
     },
@@ -24,7 +25,7 @@ pub enum Event {
     KernelFree {
         frame: Frame,
     },
-    /// Maps an owner's page to a movable frame, filled with zeros.
+    /// Maps an owner's page to a free frame. All words of the page become 0.
     Map {
         owner: Owner,
         page: Page,
@@ -66,8 +67,8 @@ pub enum Event {
         op: Serial,
         cpu: Cpu,
     },
-    /// Moves the page at the lowest mapped frame of the operation's going blocks (Linux guide,
-    /// Memory Hot(Un)Plug).
+    /// Moves the page at the lowest mapped frame of the blocks that the operation is taking offline
+    /// (Linux guide, Memory Hot(Un)Plug).
     Migrate {
         op: Serial,
     },

@@ -20,7 +20,7 @@ pub struct Parts<'a> {
     pub blocks: u64,
     /// Processors, 1 to 64.
     pub cpus: u64,
-    /// The most frames that a refill adds to a processor's list, and a spill removes: 1 to `high`.
+    /// Frames that a spill takes off a processor's list, and a refill adds at most: 1 to `high`.
     pub batch: u64,
     /// Frames that a processor's list can hold before it spills, at most 1024.
     pub high: u64,
@@ -195,7 +195,7 @@ impl Layout {
         self.cpus
     }
 
-    /// Returns the most frames that a refill adds, which is what a spill removes: 1 to `high`.
+    /// Returns how many frames a spill removes, and a refill adds at most: 1 to `high`.
     pub fn batch(&self) -> u32
         ensures is { result ≡ self.now.batch }
         ensures layout { IsLayout self.now }
@@ -355,7 +355,7 @@ fn processor_fault(parts: &Parts<'_>) -> Option<LayoutFault>
     None
 }
 
-/// Returns the first fault of the owners, the history and the boot entries.
+/// Returns the first fault of the owners, pages and words, the history and the boot entries.
 fn owner_fault(parts: &Parts<'_>) -> Option<LayoutFault>
     ensures { result ≡ owner_fault (parts_seen parts.now) }
 {

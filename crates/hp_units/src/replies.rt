@@ -40,16 +40,19 @@ pub enum Refusal {
     NotOnline { block: Block },
     /// The block is not offline.
     NotOffline { block: Block },
-    /// A kernel block starts at this frame of a block that is to go offline. It is the lowest such
-    /// frame.
+    /// A kernel block starts at this frame. It is the lowest such frame of the first block in the
+    /// plan that is to go offline and has one.
     Unmovable { frame: Frame },
-    /// The operation is not live.
+    /// No operation with this number holds a memory block: it has ended, was undone, or never
+    /// began.
     NoOp,
-    /// No frame of the operation's going blocks is mapped.
+    /// No frame of the blocks that the operation is taking offline is mapped.
     NothingToMove,
-    /// A frame of the operation's going blocks is in no free block. It is the lowest such frame.
+    /// A frame of the blocks that the operation is taking offline is in no free block. It is the
+    /// lowest such frame.
     NotFree { frame: Frame },
-    /// The serial is above the last one, or below the last one that was sealed.
+    /// The serial is above the last one, or below that of the last sealed record (sealed records
+    /// cannot be undone).
     Gone,
     /// The address is not a multiple of the size of a memory block in bytes.
     BadAddress,

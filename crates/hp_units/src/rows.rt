@@ -16,7 +16,7 @@ pub enum Zone {
     Movable,
 }
 
-/// What a pageblock is used for.
+/// What a pageblock's free blocks are for, as long as they are not stolen (Linux: migrate type).
 #[derive(Clone, Copy, PartialEq, Eq, Drop)]
 pub enum Mobility {
     /// For kernel blocks.
@@ -250,8 +250,8 @@ pub struct Claim {
     pub wish: Wish,
 }
 
-/// A memory block's row. An online or going block has a zone; a block that an operation holds has a
-/// claim.
+/// A memory block's row. A block that is online or going offline has a zone; a block that an
+/// operation holds has a claim.
 #[derive(Clone, Copy, PartialEq, Eq, Drop)]
 pub struct Row {
     /// Whether the block is there and in use.
@@ -286,7 +286,7 @@ impl Row {
     }
 
     /// Returns the row after an operation claims its block. With the wish Off, the block is then
-    /// going (Linux, memory hotplug: offlining).
+    /// going offline (Linux, memory hotplug: offlining).
     pub fn claimed(self, op: Serial, wish: Wish) -> Row
         ensures { result ≡ claimed_row self op wish }
     {

@@ -56,7 +56,7 @@ pub record Judged : Type 0 where
   pub tables : Tables
   pub report : Report
 
--- the report has all faults of the log
+-- the tables are those after the log, and the report is on all its faults
 pub record IsVerdictOn (log : List LogEvent) (v : Judged) : Type 0 where
   pub follows : Follows log v.tables
   pub all : List NumberedFault

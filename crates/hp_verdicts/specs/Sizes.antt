@@ -6,14 +6,15 @@ use Rattle.hp_verdicts.specs.declared.options.SizeFault.{SizeFault}
 use Rattle.hp_verdicts.specs.declared.options.SizeFault.TheVariants.{Missing, Different, Wrong}
 use Rattle.hp_verdicts.specs.declared.selection.BlockRange.{BlockRange}
 
--- the number of frames per memory block that the options and the log give, and agree on
+-- the number of frames per memory block, from the options or the log. If both give it, they give
+-- the same number
 abbrev pub AreFrames : (given told : Option ℕ) → ℕ → Type 0
 AreFrames None None frames = ⊥
 AreFrames None (Some told) frames = frames ≡ told
 AreFrames (Some given) None frames = frames ≡ given
 AreFrames (Some given) (Some told) frames = (frames ≡ given) × (frames ≡ told)
 
--- all memory blocks of 2^26 frames, or all up to the range's end if these are more
+-- the number of memory blocks in 2^26 frames, or the range's end if that is greater
 abbrev pub blocks_for : (order : ℕ) → Option BlockRange → ℕ
 blocks_for order None = 2 ^ (26 - order)
 blocks_for order (Some range) = max (2 ^ (26 - order)) range.end

@@ -17,7 +17,7 @@ pub struct EventCounts {
     pub offlines: u64,
     /// Ends of onlines and offlines.
     pub ends: u64,
-    /// Lines with no event.
+    /// Lines with no event, or with one of blocks that are not judged.
     pub others: u64,
 }
 
@@ -69,7 +69,7 @@ pub struct BlockCounts {
     pub most_in_use: u32,
     /// Frames that were handed out while the block was going offline.
     pub handed_out: u64,
-    /// Pages that moved to another frame.
+    /// Pages that moved away from a frame of the block.
     pub moved: u64,
 }
 
@@ -240,7 +240,7 @@ impl BlockTallies {
     }
 }
 
-/// Returns the number of frames of a piece.
+/// Returns the number of frames of a piece of this order, or 0 if the order is 32 or more.
 pub(crate) fn frames_of(order: Order) -> u32 {
     1u32.checked_shl(order.0).unwrap_or(0)
 }

@@ -87,7 +87,7 @@ impl JudgedLog {
 }
 
 impl JudgedLog {
-    /// Returns the event as the judged blocks see it.
+    /// Returns what the event does to the judged blocks, as [`BlockRange::part_of`] does.
     fn part_of(&self, event: &LogEvent) -> LogEvent {
         match self.range {
             Some(range) => range.part_of(&self.size, event),

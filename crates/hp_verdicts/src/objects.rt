@@ -9,7 +9,7 @@ use hp_numbers::Frame;
 use hp_text::{Brackets, write_escaped};
 use std::alloc::{AllocError, Global};
 
-/// Returns the report on a log. `first` is the log's line with the first fault.
+/// Returns the report on a log. `first` is the log's line with the first fault that is not allowed.
 pub(crate) fn report_objects(
     alloc: Global,
     log: &JudgedLog,
@@ -62,7 +62,7 @@ fn write_block(out: &mut String, block: u64, row: &BlockCounts) -> Result<(), Al
     )
 }
 
-/// Writes the faults.
+/// Writes the faults that are kept, and the text of the line with the first of them.
 fn write_faults(out: &mut String, log: &JudgedLog, first: &str) -> Result<(), AllocError> {
     let size = log.size();
     let mut is_first = true;
@@ -98,8 +98,8 @@ fn write_fault(
     }
 }
 
-/// Writes the broken law, its frame or memory block, and the earlier event that it is broken
-/// against.
+/// Writes the broken law, its frame or memory block, and the earlier event that makes this one a
+/// fault.
 fn write_violation(
     out: &mut String,
     size: &MachineSize,

@@ -7,8 +7,8 @@ use crate::selection::BlockRange;
 use hp_judge::{MachineSize, piece_size};
 use hp_numbers::Order;
 
-/// A machine has at most 2^26 frames, unless blocks past them are asked for: 256 GiB of 4 KiB
-/// frames, for which a judge takes 1 GiB.
+/// The order of the number of frames that a log is judged for, unless blocks past them are asked
+/// for. 2^26 frames of 4 KiB are 256 GiB, for which a judge takes 1 GiB.
 const MOST_FRAMES_ORDER: u32 = 26;
 
 /// The options of a judgement.
@@ -108,7 +108,8 @@ impl JudgeOptions {
 }
 
 /// Returns the size of a machine with 2^26 frames, or with all blocks up to the range's end if
-/// these are more.
+/// these are more. Returns `None` if `block_frames` is not a power of two up to 2^26, or if a
+/// frame's number does not fit into 32 bits.
 fn machine_size(block_frames: u64, range: Option<BlockRange>) -> Option<MachineSize>
     ensures some { IfSome result (IsSizeFor block_frames range) }
     ensures none { IfNone result (HasNoSize block_frames range) }

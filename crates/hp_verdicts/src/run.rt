@@ -41,7 +41,7 @@ pub fn judge_log<R: Source, W: Sink>(
     }
 }
 
-/// Returns a report.
+/// Returns the report on a log.
 fn report_of(alloc: Global, log: &LogReading, form: ReportForm) -> Result<String, AllocError> {
     match form {
         ReportForm::Text => report_text(alloc, log.log(), log.first_fault()),

@@ -22,7 +22,7 @@ impl BlockRange {
         self.first <= block && block < self.end
     }
 
-    /// Returns the event as the blocks of the range see it.
+    /// Returns what the event does to the blocks of the range.
     ///
     /// An event of other blocks becomes `LogEvent::Other`, so that events keep their numbers. A
     /// move out of the range is a free, and one into it an alloc of a movable page.
@@ -53,7 +53,7 @@ impl BlockRange {
         }
     }
 
-    /// Returns a move as the blocks of the range see it.
+    /// Returns what a move does to the blocks of the range: the move, a free, an alloc, or `Other`.
     fn part_of_move(&self, size: &MachineSize, from: Frame, to: Frame) -> LogEvent
         requires { size.now.block_order < 32 }
         ensures { is_move size.now from to ≡ true → IsPartOf size.now self.now (Move from to) result }

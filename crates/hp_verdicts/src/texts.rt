@@ -12,7 +12,7 @@ use std::alloc::{AllocError, Global};
 /// At most this many characters of a log's line are shown.
 const SHOWN: usize = 200;
 
-/// Returns the report on a log. `first` is the log's line with the first fault.
+/// Returns the report on a log. `first` is the log's line with the first fault that is not allowed.
 pub(crate) fn report_text(
     alloc: Global,
     log: &JudgedLog,
@@ -65,7 +65,8 @@ fn write_block(out: &mut String, block: u64, row: &BlockCounts) -> Result<(), Al
     )
 }
 
-/// Writes the faults.
+/// Writes the faults that are kept, the text of the line with the first of them, and how many more
+/// there are.
 fn write_faults(out: &mut String, log: &JudgedLog, first: &str) -> Result<(), AllocError> {
     let size = log.size();
     let mut is_first = true;
@@ -107,8 +108,8 @@ fn write_fault(
     }
 }
 
-/// Writes the broken law, its frame or memory block, and the earlier event that it is broken
-/// against.
+/// Writes the broken law, its frame or memory block, and the earlier event that makes this one a
+/// fault.
 fn write_violation(
     out: &mut String,
     size: &MachineSize,

@@ -48,8 +48,8 @@ caused_by l seat fault caused named =
     subst (λ (o : Option CallFault). IfSome o (FaultCaused l seat)) named caused in here refl
 
 -- a line was run by the seat that a port had
-pub line_run : (l : LayoutParts) (old first called last new : SeatValue) (asked : Meaning) (gained : List Receipt)
-    (fault : Option CallFault) (end : LineEnd)
+pub line_run : (l : LayoutParts) (old first called last new : SeatValue) (asked : Meaning)
+    (gained : List Receipt) (fault : Option CallFault) (end : LineEnd)
     → first ≡ old → new ≡ last → AreTurns l first gained called → last ≡ left_with called fault
     → IsAskedRun l.cpus asked gained fault end → IfSome fault (FaultCaused l called)
     → IsCallsRun l old asked end new

@@ -194,8 +194,9 @@ workers_few l olds scripts news volumes lists fault workers within =
       ap (λ (k : ℕ). seals_in_all (take k scripts)) workers.outs,
     )
   where
-    each : (place : ℕ) (handed : List Volume) (lines : List Line) → slice_get workers.handed place ≡ Some handed
-        → slice_get scripts place ≡ Some lines → length handed ≤ seals_in lines
+    each : (place : ℕ) (handed : List Volume) (lines : List Line)
+        → slice_get workers.handed place ≡ Some handed → slice_get scripts place ≡ Some lines
+        → length handed ≤ seals_in lines
     each place handed lines there script =
         let within_outs = slice_get_within workers.handed place handed there in
         let old = get_some olds place (omega (arith, workers.outs, within_outs)) in

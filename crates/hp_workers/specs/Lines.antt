@@ -20,8 +20,8 @@ use Rattle.hp_shared.specs.Volumes.{IsSealOf, sealed_by}
 use Rattle.hp_workers.specs.declared.lines.LineEnd.{LineEnd}
 use Rattle.hp_workers.specs.declared.lines.LineEnd.TheVariants.{Reply as Replied, Fault as Faulted, Plan as Planned, Control as Untaken, Sealed}
 
--- the calls for one line: the receipts that they gained, the fault of the last of them, and the
--- line's end
+-- a statement about the calls for one line: the receipts that they gained, the fault of the last
+-- one, and the line's end
 abbrev pub Run : Type 1
 Run = List Receipt → Option CallFault → LineEnd → Type 0
 
@@ -40,7 +40,7 @@ pub record IsUnasked (gained : List Receipt) (fault : Option CallFault) (end : O
   pub none : fault ≡ None
   pub left : end ≡ Left None call.OutOfMemory
 
--- a plan: a run of its driver, with the end that the last call's fault makes; or no call was made
+-- a plan: a run of its driver with this end; or memory ran out before the first call
 abbrev pub IsPlanRun : (cpus turns : ℕ) → List Item → Run
 IsPlanRun cpus turns plan gained fault (Replied reply) = ⊥
 IsPlanRun cpus turns plan gained fault (Faulted named) = ⊥
@@ -57,7 +57,7 @@ IsUntaken why gained fault end = (gained ≡ []) × (fault ≡ None) × (end ≡
 abbrev pub IsNoRun : Run
 IsNoRun gained fault end = ⊥
 
--- a line's work was done by calls
+-- what the calls for a line are, by what the line asks for
 abbrev pub IsAskedRun : (cpus : ℕ) → asks.Meaning → Run
 IsAskedRun cpus (asks.event e) = IsEventRun e
 IsAskedRun cpus (asks.plan items turns) = IsPlanRun cpus turns items
@@ -65,7 +65,7 @@ IsAskedRun cpus (asks.not_taken why) = IsUntaken why
 IsAskedRun cpus (asks.cat path) = IsNoRun
 IsAskedRun cpus asks.seal = IsNoRun
 
--- it was done through a port, of whose calls at most the last failed
+-- a line's work was done through a port, of whose calls at most the last failed
 pub record IsPortRun {S : Type 0} (shows : S → PortValue) (makes : S → List Receipt → S → Type 0)
     (leaves : S → CallFault → S → Type 0) (old : S) (Ran : Run) (end : LineEnd) (new : S) : Type 0 where
   pub gained : List Receipt
@@ -78,8 +78,8 @@ abbrev pub left_with : SeatValue → Option CallFault → SeatValue
 left_with seat None = seat
 left_with seat (Some fault) = left_by seat fault
 
--- a line's work was done by calls of a seat, which keeps their receipts; the last call fails with
--- `HistoryFull` only if the seat may find the history full, and the seat counts that
+-- a line's work was done by calls of a seat, which keeps their receipts. The last call fails with
+-- `HistoryFull` only if the seat's counts allow a full history, and then the seat counts it
 pub record IsCallsRun (l : LayoutParts) (old : SeatValue) (asked : asks.Meaning) (end : LineEnd)
     (new : SeatValue) : Type 0 where
   pub gained : List Receipt
@@ -107,7 +107,7 @@ IsLine l old asked handed end new =
     ((handed ≡ []) × IsCallsRun l old asked end new)
     ⊎ ((asked ≡ asks.seal) × IsSealRun l old handed end new)
 
--- a line was run by a seat; its volumes come after those before
+-- a line was run by a seat; the volumes that its seal handed out are appended to those before
 pub record IsLineRun (l : LayoutParts) (old : SeatValue) (before : List Volume) (asked : asks.Meaning)
     (end : LineEnd) (new : SeatValue) (after : List Volume) : Type 0 where
   pub handed : List Volume
@@ -130,7 +130,8 @@ AreLines l old (line ∷ lines) handed ends new =
     × (others : List LineEnd) × (handed ≡ out ++ more) × (ends ≡ end ∷ others)
     × (IsLine l old (asks.asked_by line.work) out end mid × AreLines l mid lines more others new)
 
--- a seat ran the first of its lines, with an end per line, and its seals handed out these volumes
+-- a seat ran the first `length ends` of its lines, each with its end, and its seals handed out
+-- these volumes
 pub record IsWorked (l : LayoutParts) (old : SeatValue) (lines : List Line) (new : SeatValue)
     (handed : List Volume) (ends : List LineEnd) : Type 0 where
   pub ran : AreLines l old (take (length ends) lines) handed ends new

@@ -13,10 +13,11 @@ abbrev pub one_if : Bool → ℕ
 one_if true = 1
 one_if false = 0
 
--- how many lines of a script are seals; the same for all scripts
+-- how many lines of a script are seals
 abbrev pub seals_in : List Line → ℕ
 seals_in lines = sum_by (λ line. one_if (is_seal line.work)) lines
 
+-- how many lines of all scripts are seals
 abbrev pub seals_in_all : List (List Line) → ℕ
 seals_in_all scripts = sum_by seals_in scripts
 
@@ -24,12 +25,13 @@ seals_in_all scripts = sum_by seals_in scripts
 abbrev pub AreSealed : LayoutParts → List Volume → Type 0
 AreSealed l volumes = All (λ v. IsSealOf l v 0) volumes
 
--- lists one after another
+-- the volumes of all lists, one list after another
 abbrev pub joined : List (List Volume) → List Volume
 joined [] = []
 joined (volumes ∷ lists) = volumes ++ joined lists
 
--- orders volumes by the number of earlier records, then by the number of their own, below 2^64
+-- a number that orders volumes by how many records came before them, then by how many they hold
+-- (fewer than 2^64)
 abbrev pub rank : Volume → ℕ
 rank v = v.before * 18446744073709551616 + length v.records
 

@@ -12,8 +12,8 @@ use Rattle.hp_workers.specs.declared.fault.RunFault.TheVariants.{NotStarted, Out
 use Rattle.hp_workers.specs.Lines.{EndsFull, IsWorked}
 use Rattle.hp_workers.specs.Seals.{AreInOrder, AreSealed, joined, seals_in_all}
 
--- a worker without a fault ran all its lines; with one it ran none, and `NotStarted` names its
--- processor
+-- a worker without a fault ran all its lines, one with a fault ran none; `NotStarted` has the
+-- worker's processor
 abbrev pub HasEnded : (cpu : ℕ) → List Line → List LineEnd → Option RunFault → Type 0
 HasEnded cpu lines ends None = length ends ≡ length lines
 HasEnded cpu lines ends (Some (NotStarted named)) = (named ≡ cpu) × (ends ≡ [])
@@ -94,13 +94,14 @@ pub record AreGathered (l : LayoutParts) (olds : List SeatValue) (scripts : List
   pub order : AreInOrder volumes
   pub few : length volumes ≤ seals_in_all scripts
 
--- if some line ended because the history was full, the number of all records has reached its limit
+-- if some line ended because the history was full, the number of all records has reached the limit
+-- of a history, or no serial is left
 abbrev pub ReachWhereFull : LayoutParts → List (List LineEnd) → (all : ℕ) → Type 0
 ReachWhereFull l lists all =
     (cpu : ℕ) (own : List LineEnd) (at : ℕ) (end : LineEnd) → slice_get lists cpu ≡ Some own
     → slice_get own at ≡ Some end → EndsFull end → IsReached l all
 
--- the end of a run
+-- how a run of workers ends: memory ran out before any worker started, or all workers have returned
 abbrev pub IsRunEnd : LayoutParts → List SeatValue → List (List Line) → List SeatValue → List Volume
     → List (List LineEnd) → Option RunFault → Type 0
 IsRunEnd l olds scripts news volumes lists fault =

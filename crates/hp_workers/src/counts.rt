@@ -17,7 +17,7 @@ pub(crate) fn count_all(scripts: &Vec<Script>) -> Option<usize>
     Some(count)
 }
 
-/// Returns `before` plus the number of lines that seal.
+/// Returns `before` plus the number of lines that seal, or `None` on overflow.
 fn count_lines(lines: &[Line], before: usize) -> Option<usize>
     ensures { IfSome result (λ count. count ≡ before + seals_in lines.now) }
 {
@@ -28,7 +28,7 @@ fn count_lines(lines: &[Line], before: usize) -> Option<usize>
     Some(count)
 }
 
-/// Returns the count, plus one if the line seals.
+/// Returns the count, plus one if the line seals, or `None` on overflow.
 fn count_line(line: &Line, count: usize) -> Option<usize>
     ensures { IfSome result (λ next. next ≡ count + one_if (is_seal line.now.work)) }
 {

@@ -20,15 +20,15 @@ use std::sync::Wait;
 /// How a line ended.
 #[derive(Clone, Copy, PartialEq, Eq, Drop)]
 pub enum LineEnd {
-    /// The reply to its event.
+    /// The reply to the line's event.
     Reply(Reply),
-    /// The fault of its call; `OutOfMemory` if its seal ran out of memory.
+    /// The fault of the line's call; `OutOfMemory` if the line's seal ran out of memory.
     Fault(CallFault),
-    /// The end of its plan's operation.
+    /// The end of the operation of the line's plan.
     Plan(OpEnd),
-    /// Why a control file did not take its word.
+    /// Why a control file did not take the line's word.
     Control(ControlFault),
-    /// How many records its seal handed out.
+    /// How many records the line's seal handed out.
     Sealed(u64),
 }
 

@@ -8,7 +8,7 @@ use hp_units::{CallFault, Event, Reply};
 use std::alloc::Global;
 use std::sync::Wait;
 
-/// A seat with a gate around its calls, which it counts. It shows the seat's receipts.
+/// A port that makes a seat's calls, with the gate before and after each, and counts them.
 #[derive(Drop)]
 pub(crate) struct GatedPort<'a, L: Job, G: Gate, R: Wait> {
     rt: &'a R,

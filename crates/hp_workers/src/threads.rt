@@ -74,9 +74,9 @@ pub struct RunEnd<L: Job> {
 /// All seats come back in every case, with the receipts of the lines that they ran, in order, and
 /// so do all volumes that the lines' seals handed out. A worker runs all its lines or none. It runs
 /// none if no thread can be started for it (`NotStarted` with its processor, which is never the
-/// first seat's), or if memory runs out before its first line (`OutOfMemory`). The fault is that of
-/// the first seat that has one; without a fault all lines were run. If memory runs out in a line,
-/// that is the line's end, and not a fault of the run.
+/// first seat's). It also runs none if memory runs out before its first line (`OutOfMemory`). The
+/// fault is that of the first seat that has one; without a fault all lines were run. If memory runs
+/// out in a line, that is the line's end, and not a fault of the run.
 pub fn run_workers<L: Job + Send + Sync, G: Gate + Sync, R: Threads + Wait + Sync>(
     rt: &R,
     alloc: Global,
@@ -99,7 +99,8 @@ pub fn run_workers<L: Job + Send + Sync, G: Gate + Sync, R: Threads + Wait + Syn
 /// Makes room for the results of `seats` workers, with a volume for each line that seals. Returns
 /// `None` if memory runs out.
 fn room_for<L: Job>(alloc: Global, seats: usize, scripts: &Vec<Script>) -> Option<RunEnd<L>>
-    ensures bare { IfSome result (λ room. IsBare room.seats.items room.volumes.items room.ends.items room.fault) }
+    ensures bare { IfSome result
+        (λ room. IsBare room.seats.items room.volumes.items room.ends.items room.fault) }
     ensures room { IfSome result (λ room. (seats ≤ vec_capacity room.seats) × (seats ≤ vec_capacity room.ends)
         × (seals_in_all scripts.now.items ≤ vec_capacity room.volumes)) }
 {

@@ -21,7 +21,7 @@ pub struct Worked<L: Job> {
     pub seat: Seat<L>,
     /// An end for each line that was run.
     pub ends: Ends,
-    /// The volumes that its seals handed out, in order.
+    /// The volumes that the seat's seals handed out, in order.
     pub volumes: Vec<Volume>,
     /// `None` if all lines were run.
     pub fault: Option<RunFault>,

@@ -1,4 +1,4 @@
-//! Scenarios, and the report of a check on each.
+//! Tests of scenarios with the report of `check` on each.
 use hp_check::{
     Finding, Key, call_lines, check, fault_count, halves_at, has_comment, is_blank, nests_deeper,
     write_report,
@@ -116,7 +116,7 @@ const HINTED: &[Checked] = &[
     ),
 ];
 
-/// Texts with a small error each, such as a capital letter or a leading zero.
+/// A scenario whose lines have a small error each, such as a capital letter or a leading zero.
 const MISTYPED: Checked = (
     "{\"layout\":{\"order\":1,\"pageblocks\":1,\"blocks\":2,\"cpus\":2,\"batch\":1,\"high\":1,\
          \"owners\":2,\"pages\":2,\"words\":1,\"history\":40,\"boot\":[\"normal\",\"movable\"]},\n\
@@ -144,8 +144,8 @@ const MISTYPED: Checked = (
      calls 12 (line 6): `0 \\u001b[31m\\nwalk`: its second word is no verb\nfaults: 12, warnings: 0\n",
 );
 
-/// Lines of scripts after one line of setup, and the report on them. The begin may get any later
-/// serial.
+/// A scenario with one line of setup and later lines in scripts, and the report on it. The begin
+/// may get any serial above 1, so only `0 commit 1` names an operation that never begins.
 const SCRIPTED: Checked = (
     "{\"layout\":{\"order\":1,\"pageblocks\":1,\"blocks\":2,\"cpus\":2,\"batch\":1,\"high\":1,\
      \"owners\":2,\"pages\":2,\"words\":1,\"history\":40,\"boot\":[\"normal\",\"movable\"]},\n\
@@ -197,7 +197,7 @@ pub(crate) fn has_report(alloc: Global, text: &str, expected: &str) -> Result<bo
     Ok(report.as_str() == expected)
 }
 
-/// Returns the place of the first text on which there is another report.
+/// Returns the index of the first text whose report is not the expected one.
 pub(crate) fn first_other(alloc: Global, rows: &[Checked]) -> Result<Option<usize>, AllocError> {
     for (place, (text, expected)) in rows.iter().enumerate() {
         if !has_report(alloc, text, expected)? {
@@ -207,7 +207,7 @@ pub(crate) fn first_other(alloc: Global, rows: &[Checked]) -> Result<Option<usiz
     Ok(None)
 }
 
-/// Returns the table. Keeps proofs from evaluating it in each function that uses it.
+/// Returns `CHECKED`. Keeps proofs from evaluating it in each function that uses it.
 fn checked() -> &'static [Checked] {
     CHECKED
 }
@@ -221,7 +221,7 @@ fn each_text_has_its_report(rt: HostRuntime) -> Result<(), Fail> {
     Ok(())
 }
 
-/// Returns whether the report on lines of scripts is the expected one.
+/// Returns whether the report on a scenario with one line of setup is the expected one.
 pub(crate) fn are_scripts_checked(alloc: Global, checked: Checked) -> Result<bool, AllocError> {
     let (text, expected) = checked;
     let after_one = report_after(alloc, 1, text)?;
@@ -240,8 +240,8 @@ fn is_said(alloc: Global, count: usize, expected: &str) -> Result<bool, AllocErr
     has_report(alloc, &text, expected)
 }
 
-/// Returns whether the report names the greatest depth that the reader accepts, if a text is
-/// deeper.
+/// Returns whether the report names the greatest depth that the reader accepts for a text that is
+/// deeper, but not for one of exactly this depth.
 fn is_depth_said(alloc: Global) -> Result<bool, AllocError> {
     let deep = "line 1, column 128: not JSON: more than 127 objects and lists in one another\n\
                 faults: 1, warnings: 0\n";
@@ -281,8 +281,8 @@ fn are_warnings(findings: &[Finding]) -> bool {
     true
 }
 
-/// Returns whether the report on one of the texts has this many faults, and only warnings if
-/// `is_whole`.
+/// Returns whether the report on the text at `place` of `CHECKED` has this many faults, and has
+/// only warnings exactly if `is_whole`.
 fn counts(alloc: Global, place: usize, faults: usize, is_whole: bool) -> Result<bool, AllocError> {
     let Some((text, _report)) = checked().get(place) else {
         return Ok(false);
@@ -307,10 +307,11 @@ fn faults_are_counted(rt: HostRuntime) -> Result<(), Fail> {
 /// two lines below.
 const TWICE: &[u8] = b"{\"calls\": [1],\n\"calls\": [\"a\", {},\n\n[2,\n3]]}";
 
-/// The lines of these entries.
+/// The lines on which the entries of the last list of `TWICE` begin.
 const LINES_OF_TWICE: &[u64] = &[2, 2, 4];
 
-/// Returns whether the entries are found on these lines.
+/// Returns whether the entries of the last list of `TWICE` are found on the lines
+/// `LINES_OF_TWICE`.
 fn are_lines_of_twice(alloc: Global) -> Result<bool, AllocError> {
     let lines = call_lines(alloc, TWICE)?;
     Ok(lines.as_slice() == LINES_OF_TWICE)

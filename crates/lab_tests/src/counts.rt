@@ -1,11 +1,13 @@
-//! Where a search begins, and how many interleavings there are, without making a call.
+//! Tests of where a search begins, and of the number of interleavings, which is computed without
+//! making a call.
 use super::explorations::scenario;
 use hp_scenario::Scenario;
 use hp_starts::{front_of, interleavings_line, start_of};
 use std::alloc::{AllocError, Global};
 use std::test::Fail;
 
-/// The lines of a scenario, the length of the setup, and what is printed for the others.
+/// The lines of a scenario, the length of the setup, and what is printed of the interleavings of
+/// the later lines.
 const COUNTED: &[(&str, u64, &str)] = &[
     (
         "0 drain 0;1 drain 0;0 drain 1;1 drain 1;0 drain 0",
@@ -36,15 +38,15 @@ fn read(alloc: Global, lines: &str) -> Result<Option<Scenario>, AllocError> {
     Ok(Scenario::read(alloc, bytes.as_bytes()).ok())
 }
 
-/// Returns whether `text` is printed for a scenario after `setup` lines of setup, with a limit of
-/// 10.
+/// Returns whether `interleavings_line` returns `text` for a scenario after `setup` lines of setup,
+/// with a limit of 10.
 fn says_of(alloc: Global, read: &Scenario, setup: u64, text: &str) -> Result<bool, AllocError> {
     let cpus = read.layout.cpus();
     let line = interleavings_line(alloc, cpus, setup, read.lines.as_slice(), 10)?;
     Ok(line.as_str() == text)
 }
 
-/// Returns whether `text` is printed for the scenario of these lines.
+/// Returns whether `interleavings_line` returns `text` for the scenario of these lines.
 fn says(alloc: Global, lines: &str, setup: u64, text: &str) -> Result<bool, AllocError> {
     match read(alloc, lines)? {
         Some(read) => says_of(alloc, &read, setup, text),
@@ -60,7 +62,8 @@ fn interleavings_are_known_before_any_call(rt: HostRuntime) -> Result<(), Fail> 
     Ok(())
 }
 
-/// Returns whether a search after one line of setup begins with one record and two scripts.
+/// Returns whether a search of the scenario after one line of setup begins with one record and two
+/// scripts.
 fn begins_after_one(alloc: Global, scenario: &Scenario) -> bool {
     match start_of(alloc, scenario, &[], 1) {
         Ok(start) => start.machine.last_serial() == 1 && start.scripts.len() == 2,
@@ -68,7 +71,7 @@ fn begins_after_one(alloc: Global, scenario: &Scenario) -> bool {
     }
 }
 
-/// Returns whether the first of three lines is taken as the setup.
+/// Returns whether only the first of three lines is the setup, and a search begins after it.
 fn has_one_line_of_setup(alloc: Global) -> Result<bool, AllocError> {
     match read(alloc, "0 drain 0;1 drain 0;0 drain 1")? {
         Some(read) => {

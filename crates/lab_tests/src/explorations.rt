@@ -1,4 +1,4 @@
-//! Explorations and their text.
+//! Tests of explorations and their text.
 use hp_explore::Silent;
 use hp_search::{EndsForm, GroupBy, explore_text};
 use std::alloc::{AllocError, Global};
@@ -31,7 +31,8 @@ const RACE_OBJECTS: &str =
      \"refused NotFree 3\"], [\"done\"]], \"blocks\": [\"online normal\", \"going movable\"], \
      \"first\": [\"1 map web 0\", \"0 begin off 1\", \"0 migrate 5\", \"0 commit 5\"]}\n";
 
-/// The second end with the third one's count, which has the same memory blocks.
+/// The ends of `RACE`, grouped by the memory blocks. Ends 2 and 3 have the same memory blocks, so
+/// their counts are added up.
 const RACE_BLOCKS: &str =
     "interleavings: 4\nends: 2\n\nend 1\ninterleavings: 2\ncpu 0\nopened 0\nmoved 2 1\ndone\n\
      cpu 1\nrefused NoFrame\nblock 0 online normal\nblock 1 offline\nfirst:\n\"0 begin off 1\",\n\
@@ -68,8 +69,8 @@ const PLAN_TEXT: &str =
      \"1 begin off 1\",\n\"1 drainfor 1 0\",\n\"1 drainfor 1 1\",\n\"1 migrate 1\",\n\
      \"1 commit 1\"\n";
 
-/// The race with a plan: it is done, or it cannot move a page and is cancelled, with its steps kept
-/// or dropped.
+/// A plan that takes block 1 offline, against a map and an unmap. The plan is done, or it cannot
+/// move a page and is cancelled. Its steps are then kept or dropped.
 const PLAN_RACE: &str =
     "0 map db 0;0 write db 0 0 7;0 kalloc 0;0 plan 2 off 1;1 map web 0;1 unmap web 0";
 
@@ -91,8 +92,8 @@ const AGAIN_TEXT: &str =
      cpu 1\nrefused NoOp\nblock 0 online normal\nblock 1 offline\nfirst:\n\
      \"0 cancel 1\",\n\"0 begin off 1\",\n\"0 commit 3\",\n\"1 commit 0\"\n";
 
-/// The lines of a scenario, the length of the setup, and the text of its exploration in a form, with
-/// its ends put together by a part.
+/// The lines of a scenario, the length of the setup, the form of the exploration's text, by what
+/// its ends are grouped, and the text.
 type Explored = (&'static str, u64, EndsForm, Option<GroupBy>, &'static str);
 
 const BLOCKS: Option<GroupBy> = Some(GroupBy::Blocks);
@@ -146,18 +147,20 @@ fn explorations_have_their_text(rt: HostRuntime) -> Result<(), Fail> {
     Ok(())
 }
 
-/// The text for the first two interleavings of the race; then the objects for a limit of 0, of the
-/// race and of a plan.
+/// The text for the first two interleavings of `RACE`.
 const FIRST_TEXT: &str =
     "4 interleavings; these are the first 2\nends: 1\n\nend 1\ninterleavings: 2\ncpu 0\n\
      opened 0\nmoved 2 1\ndone\ncpu 1\nrefused NoFrame\nblock 0 online normal\nblock 1 offline\n\
      first:\n\"0 begin off 1\",\n\"0 migrate 4\",\n\"0 commit 4\",\n\"1 map web 0\"\n";
 
+/// The JSON object for `RACE` with a limit of 0.
 const NO_OBJECTS: &str = "{\"first\": 0, \"interleavings\": 4}\n";
 
+/// The JSON object for `PLAN` with a limit of 0.
 const NO_OBJECTS_OF_A_PLAN: &str = "{\"first\": 0, \"interleavings\": null}\n";
 
-/// The lines of a scenario, the length of the setup, the limit, and the expected text in a form.
+/// The lines of a scenario, the length of the setup, the limit, the form of the exploration's text,
+/// and the text.
 type Limited = (&'static str, u64, u64, EndsForm, &'static str);
 
 const LIMITED: &[Limited] = &[

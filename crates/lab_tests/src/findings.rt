@@ -1,9 +1,10 @@
-//! Reports on mistakes that no scenario of `checks` has.
+//! Tests of reports on mistakes that no scenario of `checks` has.
 use crate::checks::{Checked, are_scripts_checked, first_other, has_report};
 use std::alloc::{AllocError, Global};
 use std::test::Fail;
 
-/// Parts of a layout that are out of range, besides those of `checks`, and values that are no list.
+/// A layout with values out of range, besides those of `checks`, and a layout with only the key
+/// `boot`, whose value is no list.
 const LIMITED: &[Checked] = &[
     (
         "{\"layout\":{\"order\":11,\"pageblocks\":3,\"blocks\":0,\"cpus\":1,\"batch\":1,\"high\":1,\
@@ -220,7 +221,8 @@ const ECHOED: Checked = (
      faults: 0, warnings: 5\n",
 );
 
-/// The same with room for exactly the records of such an `echo`: the report is empty.
+/// The layout of `ECHOED` with a history of 1028 records, exactly enough for an `echo` that takes
+/// memory offline: the report is empty.
 const ROOMY: Checked = (
     "{\"layout\":{\"order\":1,\"pageblocks\":1,\"blocks\":2,\"cpus\":2,\"batch\":1,\"high\":1,\
      \"owners\":2,\"pages\":2,\"words\":1,\"history\":1028,\"boot\":[\"normal\",\"movable\"]},\n\
@@ -251,7 +253,8 @@ const UNSEEN: &[Checked] = &[
     ),
 ];
 
-/// A plan in a script, which may begin an operation before any line of another script.
+/// A plan in a script. It may begin operation 2 before the line of another script that names this
+/// operation, so the report is empty.
 const PLANNED: Checked = (
     "{\"layout\":{\"order\":1,\"pageblocks\":1,\"blocks\":2,\"cpus\":2,\"batch\":1,\"high\":1,\
      \"owners\":2,\"pages\":2,\"words\":1,\"history\":40,\"boot\":[\"normal\",\"movable\"]},\n\
@@ -284,7 +287,7 @@ fn is_wanted(alloc: Global, call: &str, said: &str) -> Result<bool, AllocError> 
     has_report(alloc, &text, &expected)
 }
 
-/// Returns the place of the first text with another hint.
+/// Returns the index of the first entry whose report does not have the expected hint.
 fn first_unwanted(alloc: Global, rows: &[Checked]) -> Result<Option<usize>, AllocError> {
     for (place, (call, said)) in rows.iter().enumerate() {
         if !is_wanted(alloc, call, said)? {
@@ -294,7 +297,7 @@ fn first_unwanted(alloc: Global, rows: &[Checked]) -> Result<Option<usize>, Allo
     Ok(None)
 }
 
-/// Returns the place of the first text with another report.
+/// Returns the index of the first text whose report is not the expected one.
 fn first_unstopped(alloc: Global, rows: &[Checked]) -> Result<Option<usize>, AllocError> {
     for (place, (text, said)) in rows.iter().enumerate() {
         let expected = format!(in alloc; "{said}\nfaults: 1, warnings: 0\n")?;

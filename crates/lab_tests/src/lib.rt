@@ -1,9 +1,9 @@
-//! Tests of the laboratory: explorations with the text that each must write, what hp_schedules and
-//! hp_states keep for a walk, scenarios that are refused, scenarios with the report on each,
-//! scenarios with names.
+//! Tests of `hotplug_lab`: explorations and searches with the text that each must write, parts of
+//! explorations and their sums, and scenarios that are refused. Others test the report of a check
+//! on each scenario, scenarios with names, and what hp_schedules and hp_states store for a search.
 //!
-//! They are a crate of their own, as integration tests are, so that the gate does not prove hp_search
-//! and hp_check once more with them. `rt test` in this folder runs them.
+//! They are a crate of their own, as integration tests are, so that hp_search and hp_check are not
+//! proved once more with them. `rt test` in this folder runs them.
 #![tactic(auto)]
 
 #[cfg(test)]

@@ -1,4 +1,4 @@
-//! Scenarios with names for results, and the plain scenarios that they become.
+//! Tests of scenarios with names for results, and of the scenarios with numbers that they become.
 use super::explorations::scenario;
 use hp_names::{
     Bindings, NameFault, NamedScenario, PlainLine, name_fault, plain_line, resolve_front,
@@ -8,7 +8,7 @@ use hp_text::write_scenario;
 use std::alloc::{AllocError, Global};
 use std::test::Fail;
 
-/// The second begin and the first kalloc are refused.
+/// A scenario with names for results. Its second begin and its first kalloc are refused.
 const NAMED: &str =
     "{\"layout\": {\"order\": 1, \"pageblocks\": 1, \"blocks\": 3, \"cpus\": 2, \"batch\": 1, \
      \"high\": 2,\n\"owners\": 1, \"pages\": 2, \"words\": 1, \"history\": 9,\n\
@@ -16,7 +16,8 @@ const NAMED: &str =
      \"0 migrate $x\",\n\"1 kalloc 9 as x\",\n\"1 kfree $x\",\n\"0 begin off 1 as x\",\n\
      \"0 drainfor $x 1\",\n\"1 kalloc 0 as x\",\n\"1 kfree $x\",\n\"0 cancel $x\"\n]}\n";
 
-/// The same with the numbers of the first two results.
+/// `NAMED` after its first two lines were run. Their results have numbers, and 0 replaces the names
+/// of later results.
 const AFTER_TWO: &str =
     "{\"layout\": {\"order\": 1, \"pageblocks\": 1, \"blocks\": 3, \"cpus\": 2, \"batch\": 1, \
      \"high\": 2,\n\"owners\": 1, \"pages\": 2, \"words\": 1, \"history\": 9,\n\
@@ -24,7 +25,7 @@ const AFTER_TWO: &str =
      \"0 migrate 1\",\n\"1 kalloc 9\",\n\"1 kfree 0\",\n\"0 begin off 1\",\n\"0 drainfor 0 1\",\n\
      \"1 kalloc 0\",\n\"1 kfree 0\",\n\"0 cancel 0\"\n]}\n";
 
-/// The same with all numbers.
+/// `NAMED` after all its lines were run: each result has a number.
 const AFTER_ALL: &str =
     "{\"layout\": {\"order\": 1, \"pageblocks\": 1, \"blocks\": 3, \"cpus\": 2, \"batch\": 1, \
      \"high\": 2,\n\"owners\": 1, \"pages\": 2, \"words\": 1, \"history\": 9,\n\
@@ -41,7 +42,7 @@ fn is_written(alloc: Global, named: &NamedScenario, text: &str) -> Result<bool, 
     Ok(out.as_str() == text)
 }
 
-/// Returns whether the scenario with names is this text once its first `count` lines were run.
+/// Returns whether `NAMED` is written as this text after its first `count` lines were run.
 fn is_resolved(alloc: Global, count: u64, text: &str) -> Result<bool, AllocError> {
     match NamedScenario::read(alloc, NAMED.as_bytes()) {
         Ok(named) => {
@@ -59,7 +60,7 @@ fn results_have_numbers(rt: HostRuntime) -> Result<(), Fail> {
     Ok(())
 }
 
-/// Why the names of a text are not understood after `0 begin off 0 as x`.
+/// Lines after `0 begin off 0 as x`, and why their names are not understood.
 const FAULTS: &[(&str, NameFault)] = &[
     ("0 migrate $y", NameFault::UnknownName),
     ("1 migrate $x", NameFault::UnknownName),
@@ -71,7 +72,8 @@ const FAULTS: &[(&str, NameFault)] = &[
     ("0 kalloc 0 as Y", NameFault::BadName),
 ];
 
-/// Returns whether the names of a text are not understood for this reason.
+/// Returns whether the names of a line after `0 begin off 0 as x` are not understood, for this
+/// reason.
 fn has_fault(alloc: Global, text: &str, fault: NameFault) -> Result<bool, AllocError> {
     let mut bound = Bindings::new(alloc);
     let PlainLine {
@@ -96,7 +98,7 @@ fn names_are_not_understood_for_a_reason(rt: HostRuntime) -> Result<(), Fail> {
     Ok(())
 }
 
-/// Lines, and the number of the first that is none.
+/// The lines of a scenario, and the number of the first that is not understood.
 const BAD_LINES: &[(&str, u64)] = &[
     ("0 migrate $x", 1),
     ("0 begin off 0 as x;1 migrate $x", 2),
@@ -104,7 +106,7 @@ const BAD_LINES: &[(&str, u64)] = &[
     ("0 begin off 0 as x;0 drain 0 as y;0 walk", 2),
 ];
 
-/// Returns whether the line with this number is the first that is none.
+/// Returns whether the line with this number is the first that is not understood.
 fn is_bad_line(alloc: Global, lines: &str, number: u64) -> Result<bool, AllocError> {
     let text = scenario(alloc, 9, lines)?;
     match NamedScenario::read(alloc, text.as_bytes()) {

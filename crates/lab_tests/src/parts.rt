@@ -1,4 +1,4 @@
-//! Parts of explorations, and their sums.
+//! Tests of parts of explorations, and of their sums.
 use crate::explorations::scenario;
 use hp_explore::Silent;
 use hp_part_files::{part_text, sum_text};
@@ -7,7 +7,7 @@ use hp_search::{EndsForm, PartFault, explore_text};
 use std::alloc::{AllocError, Global};
 use std::test::Fail;
 
-/// The lines of an offline against calls of another processor, after a setup.
+/// An offline against calls of another processor, after `SETUP` lines of setup.
 const RACE: &str = "0 map db 0;0 write db 0 0 7;0 kalloc 0;0 begin off 1;0 migrate 0;0 commit 0;\
      1 map web 0;1 write web 0 0 9;1 read web 0 0";
 
@@ -21,7 +21,7 @@ fn part_of(alloc: Global, input: &[u8], number: ShardId, limit: u64) -> String {
     }
 }
 
-/// Returns the text of part `number` of `of` of the race; empty if there is no such part.
+/// Returns the text of part `number` of `of` of `RACE`; empty if there is no such part.
 fn part(alloc: Global, number: u64, of: u64, limit: u64) -> Result<String, AllocError> {
     let Some(number) = ShardId::new(number, of) else {
         return Ok(String::new(alloc));
@@ -30,13 +30,13 @@ fn part(alloc: Global, number: u64, of: u64, limit: u64) -> Result<String, Alloc
     Ok(part_of(alloc, scenario.as_bytes(), number, limit))
 }
 
-/// Appends the text of part `number` of `of`.
+/// Appends the text of part `number` of `of` of `RACE`.
 fn push_part(out: &mut String, alloc: Global, number: u64, of: u64) -> Result<(), AllocError> {
     let part = part(alloc, number, of, 100)?;
     out.push_str(&part)
 }
 
-/// Returns the text of all `of` parts, the last first.
+/// Returns the text of all `of` parts of `RACE`, the last part first.
 fn parts(alloc: Global, of: u64) -> Result<String, AllocError> {
     let mut text = String::new(alloc);
     for number in 0..of {
@@ -53,7 +53,7 @@ fn has_sum(alloc: Global, text: &str, form: EndsForm, whole: &str) -> bool {
     }
 }
 
-/// Returns whether the parts in `text` add up to the exploration of the race.
+/// Returns whether the parts in `text` add up to the exploration of `RACE`.
 fn adds_up(alloc: Global, text: &str, form: EndsForm) -> Result<bool, AllocError> {
     let scenario = scenario(alloc, 40, RACE)?;
     match explore_text(
@@ -70,7 +70,7 @@ fn adds_up(alloc: Global, text: &str, form: EndsForm) -> Result<bool, AllocError
     }
 }
 
-/// Returns whether the race's `of` parts add up to its exploration.
+/// Returns whether the `of` parts of `RACE` add up to its exploration.
 fn parts_of_it_add_up(alloc: Global, of: u64, form: EndsForm) -> Result<bool, AllocError> {
     let text = parts(alloc, of)?;
     adds_up(alloc, &text, form)
@@ -101,7 +101,8 @@ fn fault_of(alloc: Global, text: &str) -> Option<PartFault> {
     }
 }
 
-/// A text of the three parts, what replaces it, and why the result has no sum.
+/// A piece of the text of the three parts of `RACE`, what replaces it wherever it comes, and why
+/// the result has no sum; `None` if it has one.
 type Refused = (&'static str, &'static str, Option<PartFault>);
 
 const NO_PART: Option<PartFault> = Some(PartFault::NotPart { line: 1 });
@@ -134,8 +135,8 @@ fn texts_without_a_sum_are_refused(rt: HostRuntime) -> Result<(), Fail> {
     Ok(())
 }
 
-/// The number of parts, the limit, how many times the first part is repeated, and why that has no
-/// sum.
+/// The number of parts of `RACE`, the limit, how many times the first part comes in the text, and
+/// why the text has no sum.
 type First = (u64, u64, usize, PartFault);
 
 const FIRST: &[First] = &[
@@ -145,7 +146,8 @@ const FIRST: &[First] = &[
     (2, 100, 0, PartFault::NotPart { line: 1 }),
 ];
 
-/// Returns whether the repeated first part is refused with this fault.
+/// Returns whether the text with only the first part, as often as the row says, is refused with its
+/// fault.
 fn is_first_refused(alloc: Global, first: &First) -> Result<bool, AllocError> {
     let (of, limit, times, fault) = first;
     let one = part(alloc, 1, *of, *limit)?;

@@ -56,7 +56,8 @@ fn has_fault(
     Ok(is_refused(alloc, &text, 0, fault))
 }
 
-/// Returns whether an exploration is refused because of its wrong line.
+/// Returns whether an exploration of the lines is refused because of the wrong line, for its
+/// reason.
 fn has_misfit(alloc: Global, misfit: &Misfit) -> Result<bool, AllocError> {
     let (lines, setup, line, why) = misfit;
     let fault = LabFault::NotForScript {
@@ -67,7 +68,7 @@ fn has_misfit(alloc: Global, misfit: &Misfit) -> Result<bool, AllocError> {
     Ok(is_refused(alloc, &text, *setup, fault))
 }
 
-/// Returns the place of the first row that has another fault or none.
+/// Returns the index of the first row whose exploration is not refused with the fault in the row.
 fn first_other(alloc: Global, rows: &[Misfit]) -> Result<Option<usize>, AllocError> {
     for (place, row) in rows.iter().enumerate() {
         if !has_misfit(alloc, row)? {
@@ -77,7 +78,7 @@ fn first_other(alloc: Global, rows: &[Misfit]) -> Result<Option<usize>, AllocErr
     Ok(None)
 }
 
-/// The room for records, the lines of a scenario, and the fault.
+/// How many records the history has room for, the lines of a scenario, and the fault.
 const REFUSED: &[(u64, &str, LabFault)] = &[
     (40, "0 drain 0;0 walk", LabFault::BadLine { line: 2 }),
     (

@@ -1,15 +1,16 @@
-//! Interleavings as scenarios.
+//! Tests of interleavings that are written as scenarios.
 use super::explorations::scenario;
 use hp_explore::Silent;
 use hp_search::{EndsForm, explore_text};
 use std::alloc::Global;
 use std::test::Fail;
 
-/// An offline against a map, where each finds one free frame outside the block.
+/// An offline against a map, with one free frame outside the block, which both may need.
 const RACE: &str = "0 map db 0;0 echo o\\u007ff]\\\" memory0;0 kalloc 0;0 begin off 1;0 migrate 0;\
      0 commit 0;1 map web 0";
 
-/// The third end's first interleaving, played by another program, written by hand.
+/// The first interleaving that leads to end 3, as a scenario. It is that of a separate program,
+/// written by hand.
 pub const LAST: &str =
     "{\"layout\": {\"order\": 1, \"pageblocks\": 1, \"blocks\": 2, \"cpus\": 2, \"batch\": 1, \
      \"high\": 1,\n\"owners\": 2, \"pages\": 2, \"words\": 1, \"history\": 40,\n\
@@ -17,8 +18,8 @@ pub const LAST: &str =
      \"0 echo o\\u007ff]\\\" memory0\",\n\"0 kalloc 0\",\n\"1 map web 0\",\n\"0 begin off 1\",\n\
      \"0 migrate 4\",\n\"0 commit 4\"\n]}\n";
 
-/// Returns whether the scenario of end `number` has this text, which is empty if there is no such
-/// end.
+/// Returns whether the first interleaving of end `number` is written as this scenario, and
+/// `is_found` is as expected. The text is empty if there is no such end.
 fn replays(
     alloc: Global,
     scenario: &str,
@@ -48,7 +49,7 @@ fn an_end_is_a_scenario(rt: HostRuntime) -> Result<(), Fail> {
     assert!(rt; replays(rt.alloc(), &race, 3, 3, LAST, true));
     assert!(rt; replays(rt.alloc(), &race, 3, 0, "", false));
     assert!(rt; replays(rt.alloc(), &race, 3, 4, "", false));
-    // All its lines are read again as they were written.
+    // All lines of `LAST` are setup now, and are written as they were read.
     assert!(rt; replays(rt.alloc(), LAST, 7, 1, LAST, true));
     Ok(())
 }

@@ -1,5 +1,5 @@
-//! What a walk over schedules stores: positions in scripts, ends with their counts, rows and
-//! numbers.
+//! Tests of what a search over schedules stores: positions in scripts, ends with their counts, rows
+//! and numbers.
 ghost use Rattle.std.specs.Prelude.{◌≡◌, IfOk, length};
 
 use hp_schedules::{
@@ -12,7 +12,7 @@ use indexmap::IndexMap;
 use std::alloc::{AllocError, Global};
 use std::test::Fail;
 
-/// Returns the record of a call that takes a frame, the first of the only processor.
+/// Returns the record of the first call: processor 0, the only one, takes frame 0 for the kernel.
 fn taken() -> Record
     ensures { result.cpu ≡ 0 }
 {
@@ -35,8 +35,8 @@ fn one_line(alloc: Global) -> Result<Vec<CallScript>, AllocError>
     Ok(scripts)
 }
 
-/// Makes the script's call and takes it back. Returns whether the script is finished in between,
-/// and asks for the call again at the end.
+/// Makes the script's call and takes it back. Returns whether the script is finished in between and
+/// has begun no operation, and asks for the call again at the end.
 fn goes_on_and_back(alloc: Global, scripts: &[CallScript]) -> Result<bool, AllocError>
     requires { length scripts.now ≡ 1 }
 {
@@ -55,7 +55,8 @@ fn goes_on_and_back(alloc: Global, scripts: &[CallScript]) -> Result<bool, Alloc
     Ok(is_over && began == Serial(0) && asks_again)
 }
 
-/// Returns whether a script of one line has one call, is mergeable, and is finished after it.
+/// Returns whether a script of one line has one call, is finished after it, and is mergeable (a
+/// search may merge equal states).
 fn are_walked(alloc: Global) -> Result<bool, AllocError> {
     let scripts = one_line(alloc)?;
     let is_one = call_count(alloc, scripts.as_slice())? == Some(1);
@@ -69,7 +70,8 @@ fn a_position_goes_on_and_back(rt: HostRuntime) -> Result<(), Fail> {
     Ok(())
 }
 
-/// Adds the tally's counts to it once more, and gathers both. Returns whether they are added up.
+/// Counts the one schedule of the tally once more, so that it has two entries, and gathers both in
+/// one. Returns whether their counts are added up, and the limit leaves room for three more.
 fn counts_again(alloc: Global, tally: &mut Tally) -> Result<bool, AllocError> {
     let shares: Vec<Share> = tally.since(0).iter().copied().collect(alloc)?;
     if !fit_in(shares.as_slice(), tally.room()) {
@@ -97,7 +99,7 @@ fn a_tally_counts(rt: HostRuntime) -> Result<(), Fail> {
     Ok(())
 }
 
-/// Returns whether a row of shares is found at its number.
+/// Returns whether a row with one share (how many schedules lead to an end) is found at its number.
 fn is_kept(alloc: Global) -> Result<bool, AllocError> {
     let mut rows = Rows::new(alloc);
     rows.push(&[Share { end: 7, count: 2 }])?;
@@ -108,7 +110,7 @@ fn is_kept(alloc: Global) -> Result<bool, AllocError> {
     Ok(is_there && rows.len() == 1)
 }
 
-/// Returns whether a number is found under the hash that it was stored under.
+/// Returns whether a number that was stored under a hash is found under this hash.
 fn is_learned(alloc: Global) -> Result<bool, AllocError> {
     let mut latest = IndexMap::new(alloc);
     let digest = mixed(key_digest(&[3]), reply_number(&Reply::Done));
@@ -122,7 +124,8 @@ fn rows_and_digests_are_kept(rt: HostRuntime) -> Result<(), Fail> {
     Ok(())
 }
 
-/// Returns whether a processor's exchange gets a number, which is gone when it is taken back.
+/// Returns whether a processor's list of calls and replies has number 1 after a call, and number 0
+/// when the call is taken back.
 fn are_exchanged(alloc: Global) -> Result<bool, AllocError> {
     let mut exchanges = Exchanges::start(alloc, 1)?;
     exchanges.go_on(alloc, Cpu(0), &taken())?;
@@ -137,8 +140,9 @@ fn exchanges_have_numbers(rt: HostRuntime) -> Result<(), Fail> {
     Ok(())
 }
 
-/// Returns whether one record is a complete schedule: it has one reply, belongs to the only part,
-/// leaves no operation open, and is no operation's own work.
+/// Returns whether one record makes a schedule of one call, with an outcome for one processor. The
+/// schedule must be in the only part of a search, and no later Cancel may drop its step. Also tests
+/// that the call of `taken` ends what a Cancel can take back.
 fn is_ended(alloc: Global, records: &[Record]) -> Result<bool, AllocError>
     requires { length records.now ≡ 1 }
 {

@@ -1,4 +1,4 @@
-//! Searches for an end, and their text.
+//! Tests of searches for an end, and of their text.
 use super::explorations::scenario;
 use hp_explore::{KEPT_BYTES, Silent, Watch};
 use hp_questions::{Wanted, wanted_line};
@@ -10,8 +10,8 @@ use std::test::Fail;
 const RACE: &str =
     "0 map db 0;0 write db 0 0 7;0 kalloc 0;0 begin off 1;0 migrate 0;0 commit 0;1 map web 0";
 
-/// The expected replies in each order of the four calls are those of a separate program, written by
-/// hand.
+/// The text of a search for `NOT_FREE`. The expected replies to the four calls in each order are
+/// those of a separate program, written by hand.
 const REFUSED: &str =
     "changes: 1\nfirst:\n\"1 map web 0\",\n\"0 begin off 1\",\n\"0 migrate 5\",\n\"0 commit 5\"\n";
 
@@ -35,7 +35,7 @@ const REFUSED_SCENARIO: &str =
      \"boot\": [\"normal\", \"movable\"]},\n\"calls\": [\n\"0 map db 0\",\n\"0 write db 0 0 7\",\n\
      \"0 kalloc 0\",\n\"1 map web 0\",\n\"0 begin off 1\",\n\"0 migrate 5\",\n\"0 commit 5\"\n]}\n";
 
-/// Parses the line of an end, and appends it if it is one.
+/// Parses a wanted line and appends it. Appends nothing if no end can have the text as a line.
 fn push_line(alloc: Global, wanted: &mut Vec<Wanted>, text: &str) -> Result<(), AllocError> {
     match wanted_line(alloc, text) {
         Ok(Some(line)) => {
@@ -47,7 +47,7 @@ fn push_line(alloc: Global, wanted: &mut Vec<Wanted>, text: &str) -> Result<(), 
     }
 }
 
-/// Parses lines of ends, all of which must be such lines.
+/// Parses wanted lines. Leaves out a text that no end can have as a line.
 fn wanted_of(alloc: Global, texts: &[&str]) -> Result<Vec<Wanted>, AllocError> {
     let mut wanted = Vec::new(alloc);
     for text in texts {
@@ -86,7 +86,7 @@ fn finds(alloc: Global, searched: &Searched) -> Result<bool, AllocError> {
     }
 }
 
-/// The wanted lines of an end, the form of the search, its text, and what it comes to.
+/// The wanted lines of an end, the form of the search's text, the text, and the search's result.
 type Searched = (
     &'static [&'static str],
     ScheduleForm,
@@ -94,11 +94,13 @@ type Searched = (
     FindResult,
 );
 
-/// The lines of two ends of the race, `NOT_FREE` and `TOO_LATE`, and lines that no end has.
+/// A line that an end of `RACE` has.
 const NOT_FREE: &[&str] = &["refused NotFree"];
 
+/// Lines that another end of `RACE` has.
 const TOO_LATE: &[&str] = &["0: refused NoFrame", "block 1 going movable", "1: done"];
 
+/// Lines that no end of `RACE` has together.
 const NOT_THERE: &[&str] = &["block 1 offline", "1: done"];
 
 const IN_WORDS: &[Searched] = &[
@@ -134,7 +136,7 @@ const IN_OTHER_FORMS: &[Searched] = &[
     (NOT_THERE, ScheduleForm::Scenario, "", FindResult::Absent),
 ];
 
-/// Returns the place of the first search with another text.
+/// Returns the index of the first search whose text or result is not the expected one.
 fn first_other(alloc: Global, rows: &[Searched]) -> Result<Option<usize>, AllocError> {
     for (place, row) in rows.iter().enumerate() {
         if !finds(alloc, row)? {
@@ -150,7 +152,8 @@ fn the_fewest_changes_are_found(rt: HostRuntime) -> Result<(), Fail> {
     Ok(())
 }
 
-/// Returns whether a search that is ended after this many states has this text.
+/// Returns whether a search that is ended after this many states has the result `Unknown` and this
+/// text.
 fn ends_unknown(
     alloc: Global,
     states: u64,

@@ -1,4 +1,5 @@
-//! Scenarios that are written as the text that they are read from.
+//! Tests of scenarios that are written as the text that they were read from, and of script lines
+//! that name operation 0 before their processor has begun one.
 use super::replays::LAST;
 use hp_scenario::{Line, Scenario};
 use hp_starts::{Unbegun, unbegun_lines};
@@ -20,8 +21,8 @@ const NO_LINES: &str =
      \"high\": 2,\n\"owners\": 1, \"pages\": 2, \"words\": 1, \"history\": 5,\n\
      \"boot\": [\"movable\"]},\n\"calls\": [\n\n]}\n";
 
-/// Scripts that use operation 0: the second before its own begin, the third after a begin in the
-/// setup.
+/// Scripts that name operation 0: processor 1 in line 4, before its begin, and processor 2 in line
+/// 6, after its plan in line 2.
 const SCRIPTS: &str =
     "{\"layout\": {\"order\": 0, \"pageblocks\": 4, \"blocks\": 1, \"cpus\": 3, \"batch\": 1, \
      \"high\": 2, \"owners\": 1, \"pages\": 2, \"words\": 1, \"history\": 9, \"boot\": [\"movable\"]}, \
@@ -52,7 +53,8 @@ fn scenarios_are_read_as_they_are_written(rt: HostRuntime) -> Result<(), Fail> {
     Ok(())
 }
 
-/// Writes lines, then calls with a mark before and after them.
+/// Writes lines, then calls, and a mark after them. With `true`, `write_mark` writes no mark before
+/// them.
 fn write_parts(
     out: &mut String,
     names: &IndexSet<Text>,
@@ -96,8 +98,8 @@ fn calls_are_written_as_lines(rt: HostRuntime) -> Result<(), Fail> {
     Ok(())
 }
 
-/// Returns whether the only finding is this line of this processor, or there is none if `line` is
-/// 0.
+/// Returns whether this line of this processor is the only one in `found`; if `line` is 0, whether
+/// `found` is empty.
 fn tells(found: &[Unbegun], cpu: Cpu, line: u64) -> bool {
     match found {
         [] => line == 0,
@@ -106,8 +108,8 @@ fn tells(found: &[Unbegun], cpu: Cpu, line: u64) -> bool {
     }
 }
 
-/// Returns whether this line of processor 1 is the only one that works on no operation, or none
-/// does if `line` is 0.
+/// Returns whether this line of processor 1 is the only one that `unbegun_lines` returns; if `line`
+/// is 0, whether it returns none.
 fn tells_line(alloc: Global, read: &Scenario, setup: u64, line: u64) -> Result<bool, AllocError> {
     let cpus = read.layout.cpus();
     let found = unbegun_lines(alloc, cpus, setup, read.lines.as_slice())?;

@@ -1,4 +1,4 @@
--- The layouts that the tests name whole.
+-- The layout of the tests, with all its parts.
 use Rattle.std.specs.Prelude.{[], ◌∷◌}
 use Rattle.hp_units.specs.LayoutParts.{LayoutParts}
 use Rattle.hp_units.specs.declared.rows.Boot.TheVariants.{Offline}

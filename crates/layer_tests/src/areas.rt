@@ -24,7 +24,7 @@ pub(crate) fn one_free_pageblock(alloc: Global, layout: &Layout) -> Result<Buddy
     Ok(copy)
 }
 
-/// Returns these free areas for the tests' layout.
+/// Returns the free areas of `one_free_pageblock` for the tests' layout.
 fn small_buddy(alloc: Global) -> Result<Buddy, Fail>
     ensures layout { IfOk result (λ b. b.layout ≡ two_blocks) }
     ensures apart { IfOk result (λ b. AreApart b.layout b.areas) }

@@ -1,5 +1,5 @@
-//! Layers made at both ends of a limit. refusals/check_refusals.py counts that they allocate the
-//! same number of times.
+//! Layers made at both ends of a limit. refusals/check_refusals.py checks, on the cases of
+//! crates/refusals, that layers allocate equally often at both ends.
 ghost use Rattle.std.specs.Prelude.{◌≡◌, IfOk};
 
 use crate::layouts::BOOT;

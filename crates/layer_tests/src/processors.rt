@@ -56,7 +56,8 @@ fn puts(cpus: &mut Cpus, buddy: &mut Buddy, frame: Frame, tape: &mut Tape) -> bo
     cpus.front(Cpu(0), Pool::Nm) == Some(frame) && cpus.len(Cpu(0), Pool::Nm) == 1
 }
 
-/// Drains the lists if each has at most one frame. Returns whether all are empty.
+/// Drains the lists if each has at most one frame. Returns whether the list of pool Nm is then
+/// empty.
 fn drains(cpus: &mut Cpus, buddy: &mut Buddy, tape: &mut Tape) -> bool
     requires layout { cpus.old.layout ≡ two_blocks }
     requires together { AreTogether cpus.old buddy.old }

@@ -1,7 +1,7 @@
 //! A small layout for the tests of several crates, and what its memory blocks are at boot.
 //!
-//! It has four memory blocks of four frames: two of zone Normal, one of zone Movable, and one that is
-//! offline or absent at boot. The clauses of `four_blocks` say what the tests need of it.
+//! It has four memory blocks of four frames: two of zone Normal, one of zone Movable, and one that
+//! is offline or absent at boot. The clauses of `four_blocks` say what the tests need of it.
 #![tactic(auto)]
 
 ghost use Rattle.std.specs.Prelude.{◌≡◌, IfOk};
@@ -13,7 +13,7 @@ use std::alloc::Global;
 /// Four memory blocks: the third is in zone Movable, and the last is offline at boot.
 pub const LAST_OFFLINE: &[Boot] = &[Boot::Normal, Boot::Normal, Boot::Movable, Boot::Offline];
 
-/// The same blocks, but the last is absent at boot.
+/// Four memory blocks: the third is in zone Movable, and the last is absent at boot.
 pub const LAST_ABSENT: &[Boot] = &[Boot::Normal, Boot::Normal, Boot::Movable, Boot::Absent];
 
 /// Returns a layout of four memory blocks of one pageblock of four frames, two processors, two

@@ -27,7 +27,7 @@ fn line_of_read(alloc: Global, line: &str) -> Result<String, AllocError> {
     Ok(out)
 }
 
-/// Returns whether the events of frames have their lines.
+/// Returns whether an alloc, a free and a move are written as the right JSON.
 fn frames_have_lines(alloc: Global) -> Result<bool, AllocError> {
     let (frame, order) = (Frame(512), Order(3));
     let alloced = LogEvent::Alloc {
@@ -50,7 +50,7 @@ fn frames_have_lines(alloc: Global) -> Result<bool, AllocError> {
     )
 }
 
-/// Returns whether the starts of onlines and offlines have their lines.
+/// Returns whether the starts of onlines and offlines are written as the right JSON.
 fn begins_have_lines(alloc: Global) -> Result<bool, AllocError> {
     let block = Block(2);
     let normal = LogEvent::OnlineBegins {
@@ -69,7 +69,7 @@ fn begins_have_lines(alloc: Global) -> Result<bool, AllocError> {
     )
 }
 
-/// Returns whether the ends of onlines and offlines have their lines.
+/// Returns whether the ends of onlines and offlines, and `Other`, are written as the right JSON.
 fn ends_have_lines(alloc: Global) -> Result<bool, AllocError> {
     let block = Block(0);
     let online = LogEvent::OnlineEnds { block, ok: true };
@@ -81,7 +81,7 @@ fn ends_have_lines(alloc: Global) -> Result<bool, AllocError> {
     )
 }
 
-/// Returns whether the size of memory blocks has its line.
+/// Returns whether the number of frames per memory block is written as the right JSON.
 fn size_has_line(alloc: Global) -> Result<bool, AllocError> {
     let mut text = String::new(alloc);
     write_size(&mut text, 1024)?;

@@ -31,7 +31,8 @@ fn a_picture_has_a_band_for_each_block_and_its_ends(rt: HostRuntime) {
     assert!(rt; picture.has(">block 3<"));
     assert!(rt; !picture.has(">block 0<"));
     assert!(rt; picture.has("6 events, lawful: 0 faults, 0 allowed"));
-    // Of the six events, block 1 is going online from event 0, and offline from event 4.
+    // Of the six events, block 1 is going online from event 0 on, and going offline from event 4
+    // on.
     assert!(rt; picture.has("<rect x='80' y='92' width='170' height='20' fill='#7dd3fc'/>"));
     assert!(rt; picture.has("<rect x='762' y='92' width='171' height='20' fill='#fdba74'/>"));
     assert!(rt; picture.has("<path d='M250 93l4 8h-8z' fill='#16a34a'"));

@@ -85,7 +85,7 @@ fn is_lost(line: &str) -> bool {
     }
 }
 
-/// Lines of a log of JSON, of every kind.
+/// Lines of JSON of every kind, each with its event as `numbers_of` returns it.
 const JSON_LINES: &[(&str, [u32; 4])] = &[
     ("{\"block_frames\": 8}", [8, 0, 0, 0]),
     (
@@ -130,7 +130,7 @@ fn json_lines_have_their_faults(rt: HostRuntime) {
     assert!(rt; json_fails(rt.alloc(), &rows));
 }
 
-/// Lines as Linux 6.1 writes them.
+/// Lines as Linux 6.1 writes them, each with its event as `numbers_of` returns it.
 const FTRACE_LINES: &[(&str, [u32; 4])] = &[
     ("# tracer: nop", [8, 0, 0, 0]),
     (
@@ -194,7 +194,8 @@ fn the_first_line_alone_says_how_many_frames_a_block_has(rt: HostRuntime) {
     assert!(rt; !is_late(rt.alloc(), b"{}"));
 }
 
-/// Returns whether a line is refused because only a log's first line may be like it.
+/// Returns whether a line is refused because only the first line of a log may have the number of
+/// frames per memory block.
 fn is_late(alloc: Global, line: &[u8]) -> bool {
     let mut scratch = Scratch::new(alloc);
     match json_event(line, false, &mut scratch) {

@@ -27,7 +27,8 @@ struct Case {
     most: u64,
 }
 
-/// Returns blocks of eight frames, nothing allowed, at most ten faults.
+/// Returns the options for blocks of eight frames, no allowed kinds of fault, and at most ten
+/// faults.
 fn plain() -> Case {
     Case {
         block_frames: Some(8),
@@ -64,7 +65,8 @@ fn ends_with(alloc: Global, case: Case, log: &str, is_lawful: bool, end: &str) -
     answer == Some(is_lawful) && report.ends_with(end)
 }
 
-/// Returns whether a log is not judged, for this fault of its size.
+/// Returns whether a log is not judged, because its number of frames per memory block has this
+/// fault.
 fn fails_for_size(alloc: Global, case: Case, log: &str, wanted: SizeFault) -> bool {
     let mut report = Report::new(alloc);
     match judged(alloc, case, log, &mut report) {

@@ -32,8 +32,8 @@ fn asks(alloc: Global, path: &str, bytes: &[u8], event: &Event) -> bool {
     }
 }
 
-/// Returns whether words ask for block 3 to go online, for a probe, and for what added blocks
-/// become.
+/// Returns whether words that are written to control files ask for these events: block 3 goes
+/// online, a probe, and a setting for added blocks.
 fn words_ask(alloc: Global, online: &Event, probe: &Event, auto: &Event) -> bool {
     asks(alloc, "memory3/state", b"online\n", online)
         && asks(alloc, "memory3/online", b"1", online)

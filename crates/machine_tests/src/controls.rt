@@ -80,7 +80,7 @@ fn files_are_read(rt: HostRuntime) {
     assert!(rt; finds_in_four_blocks(rt.alloc(), LAST_ABSENT, &Case::Booted));
 }
 
-/// Paths of no file, and bytes written to them.
+/// Paths that name no file, and bytes written to them.
 const NO_FILES: &[(&str, &[u8])] = &[
     ("", b"online"),
     ("memory 3/state", b"online"),
@@ -109,8 +109,8 @@ const BAD_TEXTS: &[(&str, &[u8])] = &[
     ("probe", b"0x\xff"),
 ];
 
-/// Returns whether bytes written to a path are refused with this fault, and a path of no file is
-/// not read either.
+/// Returns whether bytes written to a path are refused with this fault. If the fault is `NoFile`, a
+/// read of the path must be refused with it too.
 fn is_refused(
     alloc: Global,
     machine: &Machine,

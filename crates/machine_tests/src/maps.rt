@@ -19,7 +19,7 @@ type Wanted = (
 );
 
 /// Five memory blocks of two pageblocks. The kernel has a block of two frames and one of one frame,
-/// each processor's list has a frame, an owner has a page, and a plan has begun that takes one
+/// each processor's list has a frame, and an owner has a page. A plan has begun that takes one
 /// memory block offline and brings two online.
 const BEGUN: &[Wanted] = &[
     (
@@ -259,7 +259,7 @@ fn all_orders(alloc: Global, first: &str, marks: [&str; 3]) -> Result<String, Al
     Ok(out)
 }
 
-/// Returns the cells of a memory block that is free.
+/// Returns the cells of a memory block that is one free block of order 10.
 fn one_block(alloc: Global) -> Result<String, AllocError> {
     let mut out = String::from_str(alloc, "(10")?;
     for _ in 0..1020 {
@@ -281,7 +281,7 @@ fn are_counted(alloc: Global, blocks: &[BlockPicture]) -> Result<bool, AllocErro
     Ok(true)
 }
 
-/// Returns whether three memory blocks are drawn with these orders.
+/// Returns whether the three memory blocks of 1,024 frames are drawn with the expected orders.
 fn are_ordered(alloc: Global, blocks: &[BlockPicture]) -> Result<bool, AllocError> {
     let kernel = all_orders(alloc, "K", ["(", ".", ")"])?;
     let whole = one_block(alloc)?;

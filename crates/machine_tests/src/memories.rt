@@ -35,8 +35,8 @@ fn is_first(answered: Result<Reply, AllocError>) -> bool {
     }
 }
 
-/// Returns whether the state after a step that was undone has number 0, as before it, and the state
-/// after a step number 1.
+/// Returns whether the state before a step has number 0, and again once the step is undone, and
+/// whether the state after the step has number 1.
 fn are_numbered(
     alloc: Global,
     codes: &mut Codes,

@@ -1,4 +1,4 @@
-//! Scenarios and the lines of each processor, from texts of one layout.
+//! Tests that read scenarios of one layout, and split their lines into a script per processor.
 mod forms;
 mod parts;
 mod scripts;

@@ -91,14 +91,14 @@ fn one_name(alloc: Global) -> Result<IndexSet<Text>, AllocError> {
     Ok(names)
 }
 
-/// Returns whether the text of a state has the mapped page of `db`.
+/// Returns whether the text of a state is `MAPPED`.
 fn has_the_page(alloc: Global, image: &Image, names: &IndexSet<Text>) -> Result<bool, AllocError> {
     let mut out = String::new(alloc);
     write_state(&mut out, alloc, image, names)?;
     Ok(out.as_str() == MAPPED)
 }
 
-/// Returns whether the text of a machine's state has the mapped page.
+/// Returns whether the text of a machine's state is `MAPPED`.
 fn shows_the_page(alloc: Global, machine: &Machine) -> Result<bool, AllocError> {
     let names = one_name(alloc)?;
     let image = machine.image(alloc)?;

@@ -39,13 +39,14 @@ const ESCAPED: &str =
 echo: fault BadText
 ";
 
-/// The memory of `SCENARIO`, with lines that change nothing in the picture.
+/// A scenario with the layout of `SCENARIO`, and lines that change nothing in the picture.
 const NARROW: &[u8] =
     br#"{"layout":{"order":2,"pageblocks":1,"blocks":3,"cpus":1,"batch":2,"high":2,
 "owners":1,"pages":4,"words":1,"history":9,"boot":["normal","movable","offline"]},
 "calls":["0 map db 0","0 write db 0 0 7","0 plan 4 off 1","0 seal"]}"#;
 
-/// In 80 columns the memory blocks need two lines, so later rows have only the blocks that changed.
+/// The trace of `NARROW` in 80 columns. The memory blocks need two lines, so later rows have only
+/// the blocks that changed.
 const FOLDED: &str = "   0 boot                                               0:N[....] 1:M[....]
                                                         2:off[----]
    1 0 map db 0               1: done                   1:M[a0..]
@@ -61,7 +62,7 @@ plan: done
 sealed 7
 ";
 
-/// The same with free frames drawn by the orders of their blocks.
+/// The trace of `NARROW` in 80 columns, with free frames drawn by the orders of their blocks.
 const ORDERED: &str = "   0 boot                                               0:N[(2.)] 1:M[(2.)]
                                                         2:off[----]
    1 0 map db 0               1: done                   1:M[a0()]
@@ -77,7 +78,8 @@ plan: done
 sealed 7
 ";
 
-/// A frame number that makes an answer of 26 characters, one more than fits its columns.
+/// A scenario with a frame number that makes an answer of 26 characters, one more than fits its
+/// columns.
 const LONG: &[u8] = br#"{"layout":{"order":10,"pageblocks":4,"blocks":4,"cpus":1,"batch":2,"high":2,
 "owners":1,"pages":4,"words":1,"history":9,"boot":["offline","offline","absent","normal"]},
 "calls":["0 kalloc 3","0 begin off 3"]}"#;
@@ -90,7 +92,7 @@ const LONG_ANSWER: &str =
                                                         =
 ";
 
-/// In 80 columns with orders, counts continue on further lines.
+/// The trace of `LONG` in 80 columns, with orders: counts continue on further lines.
 const COUNTS: &str = "   0 boot                                               0:off[4096: -*4096]
                                                         1:off[4096: -*4096]
                                                         2:absent[4096:  *4096]
@@ -103,7 +105,8 @@ const COUNTS: &str = "   0 boot                                               0:
                                                         =
 ";
 
-/// In 70 columns, from the last line on. A count of absent frames begins with a space.
+/// The trace of `LONG` in 70 columns, from the last line on. A count of absent frames begins with a
+/// space.
 const ABSENT: &str = "     before line 2                                      0:off[4096:
                                                         -*4096]
                                                         1:off[4096:
@@ -116,7 +119,8 @@ const ABSENT: &str = "     before line 2                                      0:
                                                         =
 ";
 
-/// From the third line on, with a row for the memory before it.
+/// The trace of `NARROW` in 120 columns from the third line on, with a row for the memory before
+/// it.
 const LATER: &str =
     "     before line 3                                      0:N[....] 1:M[a0..] 2:off[----]
    3 0 plan 4 off 1                                     0:N[....] 1:M[a0..] 2:off[----]

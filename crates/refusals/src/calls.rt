@@ -47,7 +47,7 @@ fn receipt_of(
     }
 }
 
-/// Checks that a call has this receipt.
+/// Makes a call on a machine, and checks that its receipt is this one.
 pub fn expect_receipt(
     alloc: Global,
     machine: &mut Machine,
@@ -92,7 +92,7 @@ fn end_of(
     }
 }
 
-/// Checks that a plan has this end.
+/// Carries out a plan on a machine, and checks that its end is this one.
 fn expect_end(
     alloc: Global,
     machine: &mut Machine,
@@ -154,7 +154,8 @@ fn restore(
     }
 }
 
-/// Seals the history. Checks that the volume has the machine's records, and its state is kept.
+/// Seals the history. Checks that the volume has the machine's records, and that the machine keeps
+/// its state.
 pub fn seal(case: &mut Case<'_>, machine: &mut Machine) -> Outcome {
     let before = machine.copy(case.alloc)?;
     seal_after(case, machine, &before)?;

@@ -8,7 +8,8 @@ use hp_units::{Cpu, Event, Serial};
 use refused_values::{Case, Outcome, Trouble, expect};
 use std::alloc::Global;
 
-/// Runs the lines of a scenario on a machine, then undoes them.
+/// Runs the lines of a scenario on a machine, then undoes the calls since the last seal, or since
+/// boot.
 pub fn run(case: &mut Case<'_>, scenario: &Scenario) -> Outcome {
     let mut machine = Machine::boot(case.alloc, &scenario.layout)?;
     for line in scenario.lines.as_slice() {
@@ -17,7 +18,8 @@ pub fn run(case: &mut Case<'_>, scenario: &Scenario) -> Outcome {
     go_back(case, &mut machine)
 }
 
-/// Undoes all calls since the last seal, and checks that the state is the base again.
+/// Undoes all calls since the last seal, or since boot, and checks that the state is again the
+/// machine's base.
 fn go_back(case: &mut Case<'_>, machine: &mut Machine) -> Outcome {
     let serial = Serial(machine.sealed());
     call(case, machine, Cpu(0), &Event::UndoAfter { serial })?;

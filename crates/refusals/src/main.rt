@@ -25,7 +25,7 @@ use std::process::ExitCode;
 use std::sync::Wait;
 use std::thread::Threads;
 
-/// How often a case is run again if it runs out of memory.
+/// How many times the program is run at most, if it runs out of memory each time.
 const TURNS: u32 = 5;
 
 /// Runs a case.
@@ -106,7 +106,7 @@ fn run<R: Threads + Wait + Sync>(rt: &R, host: &HostRuntime, case: &mut Case<'_>
     }
 }
 
-/// Runs the program again while it runs out of memory, at most `TURNS` times.
+/// Runs the program until it does not run out of memory, at most `TURNS` times in all.
 fn run_again<R: Threads + Wait + Sync>(rt: &R, host: &HostRuntime, case: &mut Case<'_>) -> Outcome {
     for _turn in 0..TURNS {
         match run(rt, host, case) {

@@ -1,7 +1,7 @@
-//! Steps and an undo that need no memory, since there is room for all that they note and record;
-//! and calls that go back on a machine whose tables are full, which allocate once, for their
-//! record. What they need is prepared first; then a line is printed, after which allocations may be
-//! refused.
+//! Steps and an undo that need no memory, since there is room for all that they note and record.
+//! Also an undo and a cancel on a machine whose tables are full, which allocate once, for their
+//! record. What the calls need is prepared first; then a line is printed, after which allocations
+//! may be refused.
 use crate::calls::call_all;
 use hp_machine::Machine;
 use hp_scenario::{Line, Scenario, Work};
@@ -10,29 +10,31 @@ use refused_values::memories::Noted;
 use refused_values::{Case, Outcome, Trouble, expect};
 use std::alloc::Global;
 
-/// Lines of three steps that may allocate, since they make the words of pages, and of steps that do
-/// not. Commits and cancels are left out: they make a list of their blocks.
+/// Lines of three steps that may allocate, since they make the words of pages, and then of steps
+/// that do not. Commits and cancels are left out: they make a list of their blocks.
 pub const STEPS: &str = concat!(
     r#""0 map db 0","0 write db 0 1 7","0 map web 0","0 kalloc 0","0 kalloc 1","0 kfree 2","#,
     r#""0 read db 0 1","0 write db 0 0 9","0 online 3 normal","0 begin off 2","0 drainfor 10 0","#,
     r#""0 migrate 10","0 migrate 10","0 unmap db 0","0 drain 0","0 kalloc 3""#,
 );
 
-/// The number of steps that may allocate.
+/// The number of steps of `STEPS` that may allocate.
 const FIRST: usize = 3;
 
 /// Lines that make five records. An undo after them finds room for its own record.
 pub const RECORDED: &str = r#""0 map db 0","0 kalloc 1","0 unmap db 0","0 kfree 0","0 kalloc 0""#;
 
-/// Lines, then an undo that leaves a map in the net.
+/// Lines that map a page, write to it and make two more steps, and then undo these two. The map and
+/// the write remain.
 pub const UNDONE: &str =
     r#""0 map db 0","0 write db 0 1 7","0 kalloc 1","0 unmap db 0","0 undo 2""#;
 
-/// Lines, then a cancel that restores the state before its begin, with a map left in the net.
+/// Lines that map a page, write to it, begin an operation, move the page and cancel the operation.
+/// The cancel restores the state before the begin, so the map and the write remain.
 pub const CANCELLED: &str =
     r#""0 map db 0","0 write db 0 1 7","0 begin off 2","0 migrate 3","0 cancel 3""#;
 
-/// The number of steps that both leave.
+/// The number of steps that the undo and the cancel leave: the map and the write.
 const LEFT: u64 = 2;
 
 /// Room for more deltas than all steps note.
@@ -62,7 +64,8 @@ fn noted_of(alloc: Global, layout: &Layout, lines: &[Line]) -> Outcome<usize> {
 }
 
 /// Makes the calls of lines, and undoes all of them when the history has room for one more record.
-/// Checks that no step is left to undo, and the free lists are those at boot.
+/// Checks that no step is left to undo, and that two free lists have the same front block as at
+/// boot.
 pub fn undo(case: &Case<'_>, scenario: &Scenario) -> Outcome {
     let mut machine = Machine::boot(case.alloc, &scenario.layout)?;
     call_all(case.alloc, &mut machine, scenario.lines.as_slice())?;
@@ -70,8 +73,8 @@ pub fn undo(case: &Case<'_>, scenario: &Scenario) -> Outcome {
     expect(is_undone(case.alloc, &mut machine))
 }
 
-/// Undoes all steps of a machine. Returns whether none is left, and the free lists are those at
-/// boot.
+/// Undoes all steps of a machine. Returns whether none is left, and two free lists have the same
+/// front block as at boot.
 fn is_undone(alloc: Global, machine: &mut Machine) -> bool {
     let all = Event::UndoAfter { serial: Serial(0) };
     machine.answer(alloc, Cpu(0), &all).is_ok()
@@ -80,8 +83,8 @@ fn is_undone(alloc: Global, machine: &mut Machine) -> bool {
         && machine.front(Class::Mm, Order(2)) == Some(Frame(8))
 }
 
-/// Makes the calls of a scenario, the last of them, an undo or a cancel, on a copy of the machine:
-/// the tables of a copy have no room to spare.
+/// Makes the calls of a scenario. The last one, an undo or a cancel, is made on a copy of the
+/// machine, since the tables of a copy have no room to spare.
 pub fn go_back(case: &Case<'_>, scenario: &Scenario) -> Outcome {
     let Some((last, first)) = scenario.lines.as_slice().split_last() else {
         return Err(Trouble::Wrong);
@@ -93,7 +96,7 @@ pub fn go_back(case: &Case<'_>, scenario: &Scenario) -> Outcome {
     expect_back(case.alloc, &mut copy, last)
 }
 
-/// Makes the call of a line, and checks that it goes back to the steps that are to be left.
+/// Makes the call of a line. Checks that it undoes or restores, and leaves `LEFT` steps.
 fn expect_back(alloc: Global, machine: &mut Machine, line: &Line) -> Outcome {
     let Work::Event(event) = &line.work else {
         return Err(Trouble::Wrong);

@@ -5,7 +5,8 @@ use hp_units::{Receipt, Record};
 use refused_values::{Outcome, expect};
 use std::alloc::Global;
 
-/// Checks that two machines have the same state, base, records and number of steps to undo.
+/// Checks that two machines have the same state, base and records, and as many sealed records and
+/// steps to undo.
 pub fn expect_same_machines(alloc: Global, one: &Machine, other: &Machine) -> Outcome {
     expect_same_states(alloc, one, other)?;
     expect(

@@ -1,5 +1,5 @@
-//! A machine that its processors share, and its close. If a call runs out of memory, everything
-//! comes back, and the call is made again.
+//! A machine that its processors share, each through a seat (its access to the machine), and its
+//! close. If a call runs out of memory, everything comes back, and the call is made again.
 ghost use Rattle.std.specs.Prelude.{◌≡◌};
 ghost use Rattle.hp_shared.specs.Shared.{IsFresh};
 
@@ -90,7 +90,7 @@ fn run_all<L: Job, R: Wait>(
     is_closed
 }
 
-/// Runs each line through the seat of its processor and on the other machine.
+/// Runs each line through the seat of its processor, and on `twin`.
 fn run_lines<L: Job, R: Wait>(
     rt: &R,
     case: &mut Case<'_>,
@@ -112,8 +112,8 @@ fn run_lines<L: Job, R: Wait>(
     Ok(())
 }
 
-/// Makes a call through a seat. Checks that the seat's receipt is the one that the other machine
-/// gives.
+/// Makes a call through a seat. Checks that the seat's receipt is the one that the same call on
+/// `twin` gives.
 fn run_call<L: Job, R: Wait>(
     rt: &R,
     case: &mut Case<'_>,
@@ -151,7 +151,7 @@ fn reply_of<L: Job, R: Wait>(
     }
 }
 
-/// Seals through a seat, and keeps the volume. Checks that it is the other machine's.
+/// Seals through a seat, and keeps the volume. Checks that a seal of `twin` gives the same volume.
 fn run_seal<L: Job, R: Wait>(
     rt: &R,
     case: &mut Case<'_>,
@@ -189,7 +189,8 @@ fn expect_volume(alloc: Global, machine: &mut Machine, volume: &Volume) -> Outco
     expect(same_volumes(volume, &wanted))
 }
 
-/// Closes the machine. If memory runs out, everything comes back and it is closed again.
+/// Closes the machine, and checks that it equals `twin`. If memory runs out, everything comes back
+/// and it is closed again.
 fn closes<L: Job>(
     case: &mut Case<'_>,
     shared: Shared<L>,
@@ -203,7 +204,8 @@ fn closes<L: Job>(
     }
 }
 
-/// Closes a machine again.
+/// Closes a machine again after a refused close. Checks that the refusal was for memory and handed
+/// back both seats and both volumes, and that the machine equals `twin`.
 fn closes_again<L: Job>(case: &mut Case<'_>, refused: CloseRefused<L>, twin: &Machine) -> Outcome {
     case.note();
     let CloseRefused {

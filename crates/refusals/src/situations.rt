@@ -125,7 +125,7 @@ pub fn calls_of(name: &str) -> Option<&'static str> {
     None
 }
 
-/// Reads the scenario of these lines.
+/// Reads the scenario that has `LAYOUT` and these lines.
 pub fn scenario_of(alloc: Global, calls: &str) -> Outcome<Scenario> {
     let text = format!(in alloc; "{{\"layout\":{LAYOUT},\"calls\":[{calls}]}}")?;
     Ok(Scenario::read(alloc, text.as_bytes())?)

@@ -40,7 +40,7 @@ pub fn run<R: Threads + Wait + Sync>(rt: &R, alloc: Global) -> Outcome {
     run_scripts::<Brand, R>(rt, alloc, records, sealed, fulls, machine, scripts)
 }
 
-/// Runs each processor's script in a worker, and closes.
+/// Runs each processor's script in a worker, and closes the machine.
 fn run_scripts<L: Job + Send + Sync, R: Threads + Wait + Sync>(
     rt: &R,
     alloc: Global,
@@ -64,7 +64,7 @@ fn run_scripts<L: Job + Send + Sync, R: Threads + Wait + Sync>(
     }
 }
 
-/// Runs each seat's script in a worker, and closes.
+/// Runs each seat's script in a worker, and closes the machine.
 fn run_seats<L: Job + Send + Sync, R: Threads + Wait + Sync>(
     rt: &R,
     alloc: Global,
@@ -81,8 +81,8 @@ fn run_seats<L: Job + Send + Sync, R: Threads + Wait + Sync>(
     close_after(alloc, shared, end)
 }
 
-/// Closes after a run, and checks that there is one receipt per record, even if a line ran out of
-/// memory.
+/// Closes the machine after a run, and checks that there is one receipt per record, even if a line
+/// ran out of memory.
 fn close_after<L: Job>(alloc: Global, shared: Shared<L>, end: RunEnd<L>) -> Outcome {
     let RunEnd {
         seats,
@@ -151,7 +151,8 @@ fn is_refused(end: LineEnd) -> bool {
     }
 }
 
-/// Returns whether the lines ended as they do with ample memory.
+/// Returns whether the lines ended as they do with ample memory. Does not check how many records
+/// the seal handed out.
 fn are_right(lists: &Vec<Ends>) -> bool {
     let [first, second] = lists.as_slice() else {
         return false;

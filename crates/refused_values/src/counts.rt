@@ -1,5 +1,6 @@
-//! Makes layers of the smallest and of the largest shape. refusals/check_refusals.py counts their
-//! allocations, from the line on that reports that all is set up.
+//! Makes free areas and processors' lists of the smallest and of the largest shape.
+//! refusals/check_refusals.py counts the allocations after the line that reports that all is set
+//! up.
 use crate::trouble::{Case, Outcome};
 use crate::values::layout_with;
 use hp_buddy::Buddy;

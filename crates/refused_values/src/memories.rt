@@ -8,7 +8,7 @@ use hp_tape::Tape;
 use hp_units::{Cpu, Event, Layout, Order, Reply, Serial};
 use std::alloc::{AllocError, Global};
 
-/// Lines of every event that `Memory::step` carries out.
+/// Lines of every kind of event except UndoAfter, Probe and SetAuto.
 pub const CALLS: &str = concat!(
     r#""0 map db 0","0 write db 0 1 7","0 read db 0 1","0 kalloc 0","0 kalloc 1","0 kfree 0","#,
     r#""0 map web 0","0 begin off 2 normal 3","0 drainfor 8 0","0 migrate 8","0 migrate 8","#,
@@ -69,7 +69,7 @@ impl Noted {
         }
     }
 
-    /// Makes a step, and checks that its reply and the number of deltas are those of another.
+    /// Makes a step, and checks that `made` has its reply and the number of deltas that it notes.
     fn expect_step(
         &mut self,
         alloc: Global,

@@ -1,4 +1,4 @@
-//! Layouts, copies, empty layers, and Images.
+//! Layouts, copies, empty layers of a machine, and Images (whole states as plain lists).
 ghost use Rattle.std.specs.Prelude.{◌≡◌, ◌<◌, IfOk, length};
 
 use crate::trouble::{Outcome, Trouble, expect};
@@ -47,7 +47,7 @@ pub fn layout_with(alloc: Global, order: u64, cpus: u64, history: u64) -> Outcom
     }
 }
 
-/// Boots a machine of that layout.
+/// Boots a machine of the layout that [`layout_of`] returns.
 pub fn machine_of(alloc: Global, history: u64) -> Outcome<Machine> {
     let layout = layout_of(alloc, history)?;
     Ok(Machine::boot(alloc, &layout)?)
@@ -148,7 +148,7 @@ pub fn layers(alloc: Global) -> Outcome {
     make_layers(alloc, &layout)
 }
 
-/// Makes the layers of a layout.
+/// Makes the layers of an empty machine with this layout.
 fn make_layers(alloc: Global, layout: &Layout) -> Outcome {
     drop(Buddy::new(alloc, layout)?);
     drop(Cpus::new(alloc, layout)?);

@@ -60,7 +60,8 @@ fn are_objects(session: &mut Session, alloc: Global, rows: &[(&str, &str)]) -> b
     true
 }
 
-/// Does the same with a new session of four memory blocks.
+/// Gives each line to a new session of four memory blocks, and returns whether the reply is the
+/// object beside it.
 fn are_written(alloc: Global, rows: &[(&str, &str)]) -> bool {
     let Ok(layout) = four_blocks(alloc, LAST_ABSENT, 100) else {
         return false;

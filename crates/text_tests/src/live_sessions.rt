@@ -26,7 +26,8 @@ const LINES: &[&str] = &[
     "0 seal",
 ];
 
-/// The same lines with texts between them that are no lines. The names in those texts are new.
+/// Some lines, with texts between them that are not lines. Three of these texts name an owner that
+/// no line names.
 const WITH_OTHERS: &[&str] = &[
     "",
     "0 map web 3",
@@ -78,7 +79,8 @@ fn is_served(session: &mut Session, alloc: Global, texts: &[&str]) -> bool {
         && serves(alloc, scenario.as_str(), joined.as_str())
 }
 
-/// Does the same with a new session of four memory blocks and a limit of records.
+/// Returns `is_served` for a new session of four memory blocks, whose history has room for
+/// `history` records.
 fn are_served(alloc: Global, history: u64, texts: &[&str]) -> bool {
     let Ok(layout) = four_blocks(alloc, LAST_ABSENT, history) else {
         return false;
@@ -96,7 +98,7 @@ fn is_answered(session: &mut Session, alloc: Global, text: &str, wanted: &str) -
 }
 
 /// Returns whether a name in a text that is no line gets no owner's number. The layout has two
-/// owners; after such a text a second name is still accepted, and a third is not.
+/// owners; after the text that is no line, a second name is still accepted, and a third is not.
 fn keeps_numbers(alloc: Global) -> bool {
     let Ok(layout) = four_blocks(alloc, LAST_ABSENT, 100) else {
         return false;

@@ -197,7 +197,8 @@ pub(crate) const NARROW_ROW: &str =
 /// The meaning of an owner's letter if the owner has no name.
 pub(crate) const UNNAMED: &str = "<text x='346' y='18'>page of owner b</text>\n";
 
-/// A row in lines of its own, below a row of two strips, and all after it.
+/// The second row of `FOLDED`, whose texts have lines of their own, and all that comes after it in
+/// the picture.
 pub(crate) const FOLDED_ROWS: &str =
     "<text x='8' y='44'>a text that is 30 letters long</text><text x='188' y='58'>one of 26 \
      letters, as here</text><text x='336' y='72'> 0:N</text><rect x='384' y='62' width='510' \
@@ -232,8 +233,8 @@ pub(crate) const FOLDED_ROWS: &str =
 /// The size of a picture without rows.
 pub(crate) const EMPTY: &str = "width='820' height='76' viewBox='0 0 820 76'";
 
-/// A line of text above a row; outlines of kernel blocks, with orders beside the letter of the
-/// cells.
+/// A part of the picture of `KERNEL`: a line of text, and below it two memory blocks whose kernel
+/// blocks have outlines and orders.
 pub(crate) const KERNEL_ROWS: &str =
     "<text x='188' y='10'>the 2 calls above 1021 times more</text>\n\
      <text x='8' y='24'>kernel</text><text x='336' y='24'> 0:N</text><rect x='384' y='14' \
@@ -251,13 +252,14 @@ pub(crate) const KERNEL_ROWS: &str =
      fill='none' stroke='#fbbf24'/><text x='473' y='23' font-size='8' fill='#fbbf24' \
      stroke='#3d3d3d' stroke-width='2' paint-order='stroke'>2</text>";
 
-/// The first frame of each block. Its cells and pageblocks are too narrow for more numbers.
+/// The number of the first frame of each memory block of `KERNEL`. Its cells and pageblocks are too
+/// narrow for more numbers.
 pub(crate) const KERNEL_NUMBERS: &str =
     "<text x='384' y='60'>block 0</text><text x='384' y='72'>frame 0</text>\n\
      <text x='464' y='60'>block 1</text><text x='464' y='72'>frame 4</text>\n\
      <text x='544' y='60'>block 2</text><text x='544' y='72'>frame 8</text>\n";
 
-/// The size at a scale of a quarter, a third and four times.
+/// The size of the picture of `ROWS` at 25, 33 and 400 per cent.
 pub(crate) const QUARTER: &str = "width='205' height='38' viewBox='0 0 820 150'";
 
 pub(crate) const THIRD: &str = "width='271' height='50' viewBox='0 0 820 150'";

@@ -234,7 +234,7 @@ fn picture(
     picture_of(alloc, &names, cell, scale, rows(alloc, drawn)?)
 }
 
-/// Whether the picture of `ROWS` is `PICTURE`.
+/// Returns whether the picture of `ROWS` is `PICTURE`.
 fn is_drawn(alloc: Global) -> Result<bool, AllocError> {
     let drawn = picture(alloc, &["db"], 8, 100, ROWS)?;
     Ok(drawn.as_str() == PICTURE)
@@ -326,13 +326,15 @@ const PLAIN: &[u8] = br#"{"layout":{"order":2,"pageblocks":1,"blocks":3,"cpus":1
 "owners":1,"pages":4,"words":1,"history":9,"boot":["normal","movable","offline"]},
 "calls":["0 echo word memory1/state"]}"#;
 
-/// The same with a word that looks like a memory block, and like the end of one with a space.
+/// The scenario of `PLAIN`, but the word looks like memory blocks in brackets, with a tab between
+/// them.
 const BRACKETS: &[u8] =
     br#"{"layout":{"order":2,"pageblocks":1,"blocks":3,"cpus":1,"batch":2,"high":2,
 "owners":1,"pages":4,"words":1,"history":9,"boot":["normal","movable","offline"]},
 "calls":["0 echo 0:N[....]][\t1:M[aa] memory1/state"]}"#;
 
-/// The same with control characters that a terminal obeys, a line end, and brackets.
+/// The scenario of `PLAIN`, but the word has control characters that a terminal obeys, a line end,
+/// and brackets.
 const HOSTILE: &[u8] =
     br#"{"layout":{"order":2,"pageblocks":1,"blocks":3,"cpus":1,"batch":2,"high":2,
 "owners":1,"pages":4,"words":1,"history":9,"boot":["normal","movable","offline"]},
@@ -368,12 +370,12 @@ fn brackets_are_no_cells(rt: HostRuntime) -> Result<(), Fail> {
     Ok(())
 }
 
-/// Whether a text has no control character but line ends.
+/// Returns whether a text has no control character but line ends.
 fn is_harmless(text: &str) -> bool {
     text.chars().all(|c| c == '\n' || !c.is_control())
 }
 
-/// Whether the picture of a scenario has no control character but line ends.
+/// Returns whether the picture of a scenario has no control character but line ends.
 fn is_drawn_harmless(alloc: Global, scenario: &[u8]) -> bool {
     match scenario_picture(alloc, scenario) {
         Some(picture) => is_harmless(picture.as_str()),

@@ -12,14 +12,14 @@ const EIGHT: &[u8] = br#"{"layout":{"order":2,"pageblocks":1,"blocks":3,"cpus":2
 "calls":["0 kalloc 2","0 map db 0","1 map db 1","0 map db 2","1 map db 3","0 map db 4",
 "0 plan 8 off 1"]}"#;
 
-/// The same with five turns, of which two find no room.
+/// The scenario of `EIGHT` with five turns, of which two find no room.
 const FIVE: &[u8] = br#"{"layout":{"order":2,"pageblocks":1,"blocks":3,"cpus":2,"batch":2,"high":2,
 "owners":1,"pages":16,"words":1,"history":100,"boot":["normal","movable","movable"]},
 "calls":["0 kalloc 2","0 map db 0","1 map db 1","0 map db 2","1 map db 3","0 map db 4",
 "0 plan 5 off 1"]}"#;
 
-/// The end of the first trace, which was written by hand: the first call that finds no room, and
-/// what comes after it. The rounds after the first have the serials of four times three calls.
+/// The end of the trace of `EIGHT`, written by hand: the first call that finds no room, and what
+/// comes after it. After this round there are four more, of three calls each.
 const END: &str = "\
      migrate 7                13: refused NoFrame       0:N[KKKK] 1:M>off[:::a] 2:M[aaaa]
      drainfor 7 0             14: done                  0:N[KKKK] 1:M>off[:::a] 2:M[aaaa]
@@ -29,7 +29,7 @@ const END: &str = "\
 plan: cancelled NoFrame restored
 ";
 
-/// The last line.
+/// The last line of the scenario, line 7.
 const LAST: View = View {
     from: 7,
     to: u64::MAX,

@@ -22,7 +22,8 @@ enum Lack {
     Volume,
 }
 
-/// Maps a seat's owner's first page. Returns whether the reply was `Done`, with one receipt.
+/// Maps a page through a seat: the first one of the owner with the processor's number. Returns
+/// whether the reply is `Done` and the seat then has one receipt.
 fn maps<L: Job, R: Wait>(rt: &R, alloc: Global, shared: &Shared<L>, seat: &mut Seat<L>) -> bool {
     let event = Event::Map {
         owner: Owner(seat.cpu().0),
@@ -52,8 +53,9 @@ fn sealed<L: Job, R: Wait>(
     None
 }
 
-/// Closes with the second seat, which was missing. Returns why the first close was refused, if all
-/// else came back from it, and how many records the second one finds.
+/// Closes again, with the second seat, which was missing. Returns why the first close was refused,
+/// and how many records the second finds; `None` if the first did not hand back all else, or the
+/// second fails.
 fn closed_with_seat<L: Job>(
     alloc: Global,
     refused: CloseRefused<L>,
@@ -75,8 +77,9 @@ fn closed_with_seat<L: Job>(
     }
 }
 
-/// Closes with the volume, which was missing. Returns why the first close was refused, if all else
-/// came back from it, and how many records the second one finds.
+/// Closes again, with the volume that was missing. Returns why the first close was refused, and how
+/// many records the second finds; `None` if the first did not hand back all else, or the second
+/// fails.
 fn closed_with_volume<L: Job>(
     alloc: Global,
     refused: CloseRefused<L>,

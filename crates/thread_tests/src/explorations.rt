@@ -47,7 +47,8 @@ fn asks(alloc: Global, order: u32, count: u32) -> Result<CallScript, AllocError>
     Ok(CallScript::new(lines))
 }
 
-/// Returns two scripts of `count` calls; the second asks for all memory that the kernel can have.
+/// Returns two scripts of `count` calls; each call of the second asks for all memory that the
+/// kernel can have.
 fn scripts(alloc: Global, order: u32, count: u32) -> Result<Vec<CallScript>, AllocError>
     ensures { IfOk result (λ scripts. length scripts.items ≡ 2) }
 {
@@ -155,7 +156,7 @@ fn same_ends(ends: &[Ending], others: &[Ending]) -> bool {
             .all(|(end, other)| same_end(end, other))
 }
 
-/// Returns the ends of each of three parts.
+/// Returns the ends that a search finds in each of three parts.
 fn three_parts(
     alloc: Global,
     machine: &Machine,

@@ -6,7 +6,7 @@ use std::sync::Wait;
 use std::thread::Threads;
 
 /// Runs a command on the scenario, and returns its result and what it wrote. The streams fail at
-/// these calls, counted from 1; 0 is never.
+/// these calls, counted from 1; 0 means that they never fail.
 fn served<R: Threads + Wait + Sync>(
     rt: &R,
     command: Command,

@@ -4,7 +4,7 @@ ghost use Rattle.std.specs.Prelude.{◌≡◌, Some};
 use hp_streams::{Failed, Sink, Source};
 use std::alloc::Global;
 
-/// Gives bytes in pieces, and fails at call `fails_at`, counted from 1; 0 is never.
+/// Gives bytes in pieces, and fails at call `fails_at`, counted from 1; never if that is 0.
 #[derive(Drop)]
 pub struct Scripted<'a> {
     bytes: &'a [u8],
@@ -47,7 +47,8 @@ impl Source for Scripted<'_> {
     }
 }
 
-/// Takes bytes in pieces and keeps them, and fails at call `fails_at`, counted from 1; 0 is never.
+/// Takes bytes in pieces and keeps them, and fails at call `fails_at`, counted from 1; never if
+/// that is 0.
 #[derive(Drop)]
 pub struct Collected {
     pub bytes: Vec<u8>,

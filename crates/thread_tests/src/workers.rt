@@ -1,4 +1,5 @@
-//! Workers that meet, and calls between those of a plan, one of which ends the plan's operation.
+//! Tests of workers that meet, and of calls that one worker makes between the calls of another's
+//! plan: a write, and an undo of the plan's steps.
 ghost use Rattle.std.specs.Prelude.{◌≡◌};
 ghost use Rattle.hp_scenario.specs.Scripts.{AreForRun};
 ghost use Rattle.hp_shared.specs.Shared.{IsFresh};
@@ -197,8 +198,8 @@ fn a_page_is_written_between_the_calls_of_a_plan(rt: HostRuntime) -> Result<(), 
     Ok(())
 }
 
-/// For each call of a plan, if its steps are undone just before it: how many steps the undo takes
-/// back, and how many records there are in the end.
+/// For each call of a plan before which the plan's steps are undone: how many steps the undo takes
+/// back, and how many records there are at the end.
 const UNDONE: &[(u64, u64)] = &[(0, 8), (1, 4), (2, 5), (3, 6), (4, 7), (4, 8)];
 
 /// Maps a page, then runs a plan whose steps the other processor undoes before its nth call.
@@ -290,7 +291,7 @@ fn ends_as_undone<R: Threads + Wait + Sync>(
     Ok(ended && is_known && outcome.state.same(&wanted))
 }
 
-/// Returns whether a plan ends as it should, whichever of its calls it is undone before.
+/// Returns whether a plan ends as it should for each row of `UNDONE`.
 fn each_ends_as_undone<R: Threads + Wait + Sync>(rt: &R, alloc: Global) -> Result<bool, Fail> {
     let mut nth: u64 = 0;
     for (steps, records) in UNDONE {

@@ -72,7 +72,7 @@ impl Buddy {
     }
 }
 
-/// Returns the delta of a free block that was put after another.
+/// Returns the delta of a free block that was put after another, or at the front.
 fn link_delta(class: Class, order: Order, frame: Frame, after: Option<Frame>) -> Delta
     requires { order < 256 }
     ensures { result ≡ Link (Area class order) frame after }
@@ -84,7 +84,8 @@ fn link_delta(class: Class, order: Order, frame: Frame, after: Option<Frame>) ->
     }
 }
 
-/// Returns the delta of a free block that left its list, on which it came after another.
+/// Returns the delta of a free block that left its list, on which it came after another or was at
+/// the front.
 fn unlink_delta(class: Class, order: Order, frame: Frame, after: Option<Frame>) -> Delta
     requires { order < 256 }
     ensures { result ≡ Unlink (Area class order) frame after }

@@ -47,7 +47,7 @@ impl Buddy {
         None
     }
 
-    /// Returns the order, from `first` up, up to which a free block joins.
+    /// Returns the order that a block of order `first` has after it joined with its free buddies.
     pub(super) fn join_order(&self, class: Class, frame: Frame, first: Order) -> Order
         requires first { first ≤ self.now.layout.order }
         requires frame { frame < frame_count self.now.layout }

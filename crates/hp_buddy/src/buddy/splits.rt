@@ -64,8 +64,8 @@ impl Buddy {
         }
     }
 
-    /// Takes the front block of an order of the other mobility. A whole pageblock changes to the
-    /// wanted mobility.
+    /// Takes the front block of an order from the mobility that is not `mobility`, split down to
+    /// the order `wanted`. A whole pageblock changes to `mobility`.
     pub(super) fn steal_front(
         &mut self,
         mobility: Mobility,

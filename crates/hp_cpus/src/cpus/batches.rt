@@ -30,7 +30,7 @@ impl Cpus {
         buddy.give(zone, frame, Order(0), tape);
     }
 
-    /// Takes up to a batch of frames of a pool's class to the back of a list.
+    /// Moves up to a batch of frames of a pool's class from the free areas to the back of a list.
     pub(super) fn refill(&mut self, cpu: Cpu, pool: Pool, buddy: &mut Buddy, tape: &mut Tape)
         requires cpu { cpu < self.old.layout.cpus }
         requires together { AreTogether self.old buddy.old }

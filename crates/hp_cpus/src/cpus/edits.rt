@@ -109,7 +109,7 @@ impl Cpus {
     }
 }
 
-/// Returns the delta of a frame that was put after another on a processor's list.
+/// Returns the delta of a frame that was put on a processor's list, after another or at the front.
 fn link_delta(cpu: Cpu, pool: Pool, frame: Frame, after: Option<Frame>) -> Delta
     requires { cpu < 256 }
     ensures { result ≡ Link (CpuList pool cpu) frame after }
@@ -121,7 +121,8 @@ fn link_delta(cpu: Cpu, pool: Pool, frame: Frame, after: Option<Frame>) -> Delta
     }
 }
 
-/// Returns the delta of a frame that left a processor's list, on which it came after another.
+/// Returns the delta of a frame that left a processor's list, on which it came after another or was
+/// at the front.
 fn unlink_delta(cpu: Cpu, pool: Pool, frame: Frame, after: Option<Frame>) -> Delta
     requires { cpu < 256 }
     ensures { result ≡ Unlink (CpuList pool cpu) frame after }

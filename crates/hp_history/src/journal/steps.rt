@@ -9,7 +9,7 @@ use hp_tape::Delta;
 use std::alloc::AllocError;
 
 impl Journal {
-    /// Reserves room for `steps` more steps, so that they need not be moved as more come.
+    /// Reserves room for the entries of `steps` more steps. The tape of deltas may still grow.
     pub fn reserve(&mut self, steps: usize) -> Result<(), AllocError>
         ensures { self.new ≡ self.old }
     {

@@ -10,7 +10,7 @@ use hp_plain::{Image, Part};
 use hp_units::Block;
 use std::alloc::AllocError;
 
-/// Adds the rows, and what an added block becomes, to an Image whose rows are offline.
+/// Adds the rows and the setting for added blocks to an Image whose memory blocks are all offline.
 pub fn put_blocks(image: &mut Image, blocks: &Blocks) -> Result<(), AllocError>
     requires layout { image.old.layout ≡ blocks.now.layout }
     requires rows { AreBlocksOf blocks.now.layout blocks.now.blocks }

@@ -129,7 +129,7 @@ impl Judge {
         self.wrong_transition(block, event)
     }
 
-    /// Returns the first law that is broken by an event that takes `block` offline.
+    /// Returns the first law that is broken by an event that leaves `block` offline.
     fn violation_of_offlining(&self, block: Block, event: &LogEvent) -> Option<Violation>
         requires inside { block < self.now.size.blocks }
         requires room { block < length self.now.blocks }

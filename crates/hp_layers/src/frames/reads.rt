@@ -99,7 +99,7 @@ impl Frames {
     }
 }
 
-/// Returns whether the free block has this order.
+/// Returns whether `place` is a free block of this order.
 fn is_of_order(place: Option<(Class, Order)>, order: Order) -> bool
     ensures { result ≡ option_map_or (λ at. at.1 == order) place false }
 {

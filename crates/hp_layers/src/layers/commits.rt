@@ -1,4 +1,4 @@
-//! Commits operations: all blocks that one holds get their wishes, or none does.
+//! Commits operations: all blocks that an operation holds get their wishes, or none does.
 ghost use Rattle.std.specs.Prelude.{◌≡◌, ℕ, ◌*◌, ◌<◌, true, find, fold, length, slice_index, IfOk, MatchOption, OnErr};
 ghost use Rattle.std.specs.List.{flat_map, list_all};
 ghost use Rattle.std.specs.Option.{option_map};
@@ -56,8 +56,8 @@ impl Layers {
         Ok(Reply::Done)
     }
 
-    /// Returns the frame that keeps the blocks from getting their wishes: the lowest frame in use,
-    /// if some going block is not all free.
+    /// Returns the frame that keeps the blocks from getting their wishes, if a going block is not
+    /// all free. It is the first frame in use in the going blocks, or frame 0 if none is in use.
     fn frame_not_free(&self, blocks: &[Block]) -> Option<Frame>
         requires one { AreOfOneLayout self.now }
         requires within { (k : ℕ) → k < length blocks.now
@@ -86,7 +86,7 @@ impl Layers {
         true
     }
 
-    /// Returns whether a block is all free, if it is going.
+    /// Returns whether a block is all free or not going.
     fn is_ready(&self, block: Block) -> bool
         requires one { AreOfOneLayout self.now }
         requires block { block < self.now.layout.blocks }
@@ -99,7 +99,7 @@ impl Layers {
         self.frames.is_all_free(&self.layout, zone, block)
     }
 
-    /// Returns the lowest frame of the going blocks that is in no free block.
+    /// Returns the lowest frame that is in no free block, of the first going block that has one.
     fn frame_in_use(&self, blocks: &[Block]) -> Option<Frame>
         requires one { AreOfOneLayout self.now }
         requires within { (k : ℕ) → k < length blocks.now
@@ -201,7 +201,7 @@ impl Layers {
         }
     }
 
-    /// Gives a block a wish.
+    /// Takes a block offline, or online in a zone, as the wish says.
     #[tactic(auto, using(crate::proofs::Committed::reworked_more))]
     fn grant(&mut self, block: Block, wish: Wish, tape: &mut Tape)
         requires placed { ArePlaced self.old }

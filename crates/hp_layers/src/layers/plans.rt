@@ -45,8 +45,7 @@ impl Layers {
         self.state_refusal(plan)
     }
 
-    /// Returns why a block of a plan has the wrong state or cannot change, or `None` if all can
-    /// change.
+    /// Returns why a plan is refused for its blocks' states or for a kernel block, if it is.
     fn state_refusal(&self, plan: &[Item]) -> Option<Refusal>
         requires one { AreOfOneLayout self.now }
         requires within { names_no_block self.now.layout plan.now ≡ false }
@@ -58,7 +57,8 @@ impl Layers {
         self.change_refusal(plan)
     }
 
-    /// Returns why the blocks of a plan cannot change, or `None` if they can.
+    /// Returns why a plan is refused: a block that is to go online is not offline, or one that is
+    /// to go offline has a kernel block. `None` if neither holds.
     fn change_refusal(&self, plan: &[Item]) -> Option<Refusal>
         requires one { AreOfOneLayout self.now }
         requires within { names_no_block self.now.layout plan.now ≡ false }

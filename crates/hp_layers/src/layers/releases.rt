@@ -17,8 +17,9 @@ use hp_units::{Block, Refusal, Reply, Row, Serial, State};
 use std::alloc::{AllocError, Global};
 
 impl Layers {
-    /// Cancels an operation: its blocks are again as before the operation (Linux, memory hotplug:
-    /// undo_isolate).
+    /// Cancels an operation by releasing its blocks: a going block is online again, and any other
+    /// loses its claim (Linux, memory hotplug: undo_isolate). Pages that were moved stay where they
+    /// are.
     #[tactic(auto, using(crate::proofs::Answers::refused))]
     pub(crate) fn cancel(
         &mut self,

@@ -9,8 +9,9 @@ use hp_placement::{Marks, are_kinds, are_rows, place_kernel};
 use std::alloc::{AllocError, Global};
 
 impl Image {
-    /// Returns whether the state is well placed: each frame is in exactly one place, and each place
-    /// agrees with the rows of the memory blocks.
+    /// Returns whether the state is well placed: each frame is in exactly one place, and the parts
+    /// of the state agree. For example, a free block's class is that of its pageblock, and free
+    /// buddies of a class are joined.
     ///
     /// Check this before a state from elsewhere becomes the base of a history. Takes time linear in
     /// the frames, the pages and the entries of the lists, and one byte per frame at a time.

@@ -4,7 +4,7 @@ ghost use Rattle.std.specs.Prelude.{◌≡◌, ◌≢◌, [], replicate, IfOk, M
 use super::FrameList;
 use std::alloc::{AllocError, Global};
 
-/// Returns this many empty lists.
+/// Returns `count` empty lists.
 pub(crate) fn empty_lists(alloc: Global, count: usize) -> Result<Vec<FrameList>, AllocError>
     ensures { IfOk result (λ lists. lists.items ≡ replicate count []) }
 {

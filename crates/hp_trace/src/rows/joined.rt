@@ -12,7 +12,8 @@ use std::alloc::{AllocError, Global};
 use std::mem::replace;
 
 impl Rows {
-    /// Adds a row, and shows the last entry if no more rows can be joined to it.
+    /// Adds a row. Shows the last entry (one row, or equal rounds of a plan's calls) if no more
+    /// rows can be joined to it.
     pub(super) fn join(&mut self, alloc: Global, row: RowPicture) -> Result<(), AllocError>
         ensures { OnOk result (AreJoinedTo (row ∷ []) self.old self.new) }
     {

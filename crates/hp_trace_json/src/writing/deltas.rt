@@ -1,4 +1,4 @@
-//! The deltas of a step.
+//! The deltas of a step: its small changes, each with what undoes it.
 use crate::writing::keys::{list_key, name_of, write_auto, write_frame, write_row};
 use hp_tape::{Delta, FrameChange, ListId, RowChange};
 use hp_units::{Auto, Frame, Kind, Mobility, Owner, Pageblock, Text, Words};
@@ -82,7 +82,7 @@ fn write_link(
     write_frame(out, after)
 }
 
-/// Writes that a pageblock got another kind.
+/// Writes that a pageblock got another kind: its mobility, and whether it is isolated.
 fn write_kinds(
     out: &mut Writer,
     pageblock: Pageblock,
@@ -180,7 +180,7 @@ fn write_word(
     out.quoted_u64(now)
 }
 
-/// Writes the words that a frame lost.
+/// Writes that the buffer of a frame's words moved into the journal, and these words.
 fn write_emptied(out: &mut Writer, frame: Frame, words: &Words) -> Result<(), AllocError> {
     out.string("emptied")?;
     out.u64(u64::from(frame.0))?;

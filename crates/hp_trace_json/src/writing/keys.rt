@@ -8,7 +8,7 @@ use indexmap::IndexSet;
 use json::Writer;
 use std::alloc::{AllocError, Global};
 
-/// Returns the name of an owner; none for a number that has no name.
+/// Returns the name of an owner; the empty text for a number that has no name.
 pub(super) fn name_of(names: &IndexSet<Text>, owner: Owner) -> &str {
     match names.get_index(owner.0 as usize) {
         Some(name) => name.as_str(),
@@ -56,8 +56,8 @@ pub(super) fn write_auto(out: &mut Writer, auto: Auto) -> Result<(), AllocError>
     })
 }
 
-/// Writes the row of a memory block: its state, its zone if it has one, and the operation that holds
-/// it.
+/// Writes the row of a memory block: its state, its zone if it has one, and the operation that
+/// holds it, if one does.
 pub(super) fn write_row(out: &mut Writer, row: &Row) -> Result<(), AllocError>
     ensures { OnOk result (PutsSome out.old out.new) }
 {

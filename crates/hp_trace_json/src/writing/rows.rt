@@ -17,7 +17,7 @@ pub(crate) struct RowJson<'a> {
     pub row: &'a TraceRow<'a>,
     /// The deltas of the call, if it was a step.
     pub journal: Option<&'a [Delta]>,
-    /// The steps that it dropped.
+    /// The steps that the call dropped.
     pub dropped: &'a [Serial],
     /// How the state differs from that of the row above.
     pub change: &'a StateChange,

@@ -1,4 +1,4 @@
-//! Texts of an unusual form. Those that are refused are in refusals/hostile.py.
+//! Texts of an unusual form that are read. Those that are refused are in refusals/hostile.py.
 use super::{LAYOUT, text_of};
 use hp_scenario::{Calls, Next, Scenario, ScenarioFault};
 use std::alloc::{AllocError, Global};
@@ -12,7 +12,7 @@ fn changed(alloc: Global, old: &str, new: &str) -> Result<String, Fail> {
     Ok(text.replace(alloc, old, new)?)
 }
 
-/// Parts of a scenario, and others of the same meaning.
+/// Parts of a scenario's text, each with a text of the same meaning to put in its place.
 const SAME: &[(&str, &str)] = &[
     ("", ""),
     (

@@ -42,7 +42,8 @@ fn are_cat_remove_and_seal(cat: &Line, remove: &Line, seal: &Line) -> bool {
     is_cat && is_remove && matches!(&seal.work, Work::Seal) && seal.cpu == Cpu(7)
 }
 
-/// Returns whether these five lines come in order.
+/// Returns whether the lines are the plan, the `echo`, the `cat`, the `remove` and the seal, in
+/// order.
 fn are_plans_and_files(lines: &[Line]) -> bool {
     match lines {
         [plan, echo, cat, remove, seal] => {

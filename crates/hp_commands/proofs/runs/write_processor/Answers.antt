@@ -12,7 +12,8 @@ ends_more : (xs ys : List LineEnd) (i : ℕ) (x : LineEnd) (before old new : Lis
     → ys ≡ xs → i < length ys → x ≡ get_or ys i x → old ≡ before ++ flat_map line_end_text (take i xs)
     → new ≡ old ++ line_end_text x → new ≡ before ++ flat_map line_end_text (take (i + 1) xs)
 ends_more xs ys i x before old new same inside is so_far next =
-    let one : flat_map line_end_text (take (i + 1) ys) ≡ flat_map line_end_text (take i ys) ++ line_end_text x =
+    let one : flat_map line_end_text (take (i + 1) ys)
+    ≡ flat_map line_end_text (take i ys) ++ line_end_text x =
     ap (flat_map line_end_text)
     (take_more ys i x inside ∙ ap (λ (e : LineEnd). take i ys ++ e ∷ []) (sym is))
     ∙ flat_map-append line_end_text (take i ys) (x ∷ [])

@@ -24,8 +24,8 @@ returns-in-Plan-clause-err c =
 pub returns-in-NotTaken-clause-err : goal.returns-in-NotTaken-clause-err
 returns-in-NotTaken-clause-err c =
     on_err c.say-in-NotTaken.result
-    (rw c.in-NotTaken.is
-    (not_taken_done c.args.machine.now c.args.cpu c.in-NotTaken.fault c.say-in-NotTaken.new.self.did))
+    (rw c.in-NotTaken.is (not_taken_done c.args.machine.now c.args.cpu c.in-NotTaken.fault
+    c.say-in-NotTaken.new.self.did))
 
 pub returns-in-Cat-clause-err : goal.returns-in-Cat-clause-err
 returns-in-Cat-clause-err c =
@@ -35,8 +35,8 @@ returns-in-Cat-clause-err c =
 pub returns-in-Seal-clause-err : goal.returns-in-Seal-clause-err
 returns-in-Seal-clause-err c =
     on_err c.say-in-Seal.result
-    (subst (λ (q : Asked).
-    IsDone c.args.machine.now c.args.cpu (asked_seen q) c.say-in-Seal.new.self.did c.seal-count.new.self)
+    (subst (λ (q : Asked). IsDone c.args.machine.now c.args.cpu (asked_seen q) c.say-in-Seal.new.self.did
+    c.seal-count.new.self)
     (sym c.in-Seal.is)
     (seal_done c.args.machine.now c.seal-count.new.self c.args.cpu c.say-in-Seal.new.self.did
     c.seal-count.ensures.goes_on))

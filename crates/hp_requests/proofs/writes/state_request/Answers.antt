@@ -10,7 +10,8 @@ returns-then-eq-2 c = search rules
 pub returns-then-eq-3 : goal.returns-then-eq-3
 unfolding state_request
 returns-then-eq-3 c =
-    let is : state_request c.args.block c.args.text.now ≡ Ok (online c.args.block MovableZone) = search rules in
+    let is : state_request c.args.block c.args.text.now ≡ Ok (online c.args.block MovableZone) =
+    search rules in
     is ∙ ap Ok (sym c.online-then-eq-3.ensures)
 
 pub returns-in_ok-offline : goal.returns-in_ok-offline

@@ -20,5 +20,6 @@ returns-in-Ok-seal g c =
             ),
           );
       kept =
-          c.push_reserved.ensures.items ∙ ap (λ (vs : List Volume). vs ++ volume ∷ []) c.reserve.ensures.items;
+          c.push_reserved.ensures.items
+          ∙ ap (λ (vs : List Volume). vs ++ volume ∷ []) c.reserve.ensures.items;
     }

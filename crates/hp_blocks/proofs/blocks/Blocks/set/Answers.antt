@@ -18,7 +18,8 @@ returns-clause-notes c =
     subst (λ (v : BlocksValue). c.args.block < v.layout.blocks) (sym c.self.view_is) c.requires.block in
     let told =
     subst (λ (v : BlocksValue). c.note.new.self.deltas ≡ c.args.tape.now.deltas
-    ++ RowDelta (change_of c.args.block (row_of v.blocks c.args.block) c.args.row) ∷ []) (sym c.self.view_is) noted in
+    ++ RowDelta (change_of c.args.block (row_of v.blocks c.args.block) c.args.row) ∷ [])
+    (sym c.self.view_is) noted in
     rw (c.block.view_is, ← c.self.view_is)
     (notes-row c.self.inside.layout (record { rows = c.self.inside.rows.items; auto = c.self.inside.auto })
     c.args.block c.args.row _ _ c.self.invariant.rows lt c.note.ensures.room told)

@@ -11,10 +11,9 @@ returns-in-Ok-Some-clause-err c =
     let lines = c.self.inside.lines.items in
     let number = c.run_and_keep-ran.result.number in
     IfErr-weaker c.or_lack.result _ _
-    (λ given w.
-    rw (← c.self.view_is) (lost_line given c.self.inside.names.keys c.read_line.new.names.keys lines
-    c.run_and_keep-ran.new.lines.items c.self.inside.bound c.note-is_noted.new.bound c.self.inside.machine
-    c.run_and_keep-ran.new.machine c.args.plain c.in-Ok-Some.field-0 c.in-Ok-Some.line
+    (λ given w. rw (← c.self.view_is) (lost_line given c.self.inside.names.keys c.read_line.new.names.keys
+    lines c.run_and_keep-ran.new.lines.items c.self.inside.bound c.note-is_noted.new.bound
+    c.self.inside.machine c.run_and_keep-ran.new.machine c.args.plain c.in-Ok-Some.field-0 c.in-Ok-Some.line
     c.run_and_keep-ran.new.out.did number w.0 c.run_and_keep-ran.ensures.done
     c.run_and_keep-ran.ensures.number c.in-Ok-Some.field-0-is
     (c.in-Ok-Some.ensures.is ∙ ap (line_in c.self.inside.names.keys) c.as_str.ensures)

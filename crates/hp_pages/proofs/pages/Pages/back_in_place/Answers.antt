@@ -20,8 +20,9 @@ pub invariant_of-self-in-LargeWord : goal.invariant_of-self-in-LargeWord
 invariant_of-self-in-LargeWord c =
     let same : c.args.self.now.layout ≡ c.self.inside.layout = rw (← c.self.view_is) in
     let numbers = rw (same, c.in-LargeWord.is) at c.requires.numbers in
-    layer-buffer c.self.inside.layout c.self.inside.table c.self.inside.buffers c.set_word-in-LargeWord.new.self
-    c.self.inside.zeros _ _ c.self.invariant numbers.0 (same-size _ _ _ _ (c.self.invariant.words _))
+    layer-buffer c.self.inside.layout c.self.inside.table c.self.inside.buffers
+    c.set_word-in-LargeWord.new.self c.self.inside.zeros _ _ c.self.invariant numbers.0
+    (same-size _ _ _ _ (c.self.invariant.words _))
     c.set_word-in-LargeWord.ensures
 
 pub invariant_of-self-in-Swap : goal.invariant_of-self-in-Swap
