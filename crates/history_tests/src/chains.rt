@@ -31,7 +31,7 @@ fn undo_of(serial: u64, to: u64, reply: Reply) -> Record {
 }
 
 /// Returns three records: a block is taken, given back, and both steps are undone. The reply to the
-/// undo has this count of steps.
+/// undo has this `count` of steps.
 fn undone(alloc: Global, count: u64) -> Result<Vec<Record>, AllocError> {
     let mut records = Vec::with_capacity(alloc, 3)?;
     records.push(record_of(1, TAKE, Reply::Frame(Frame(0))))?;
@@ -140,7 +140,7 @@ fn begin_at_boot(alloc: Global, layout: &Layout, volume: &mut Volume) -> Result<
     Ok(())
 }
 
-/// Changes the reply of the last of a volume's three records.
+/// Gives a volume the records of `second_volume`, with another reply in the last one.
 fn reply_otherwise(alloc: Global, volume: &mut Volume) -> Result<(), AllocError> {
     let mut records = Vec::with_capacity(alloc, 3)?;
     records.push(undo_of(3, 0, Reply::Refused(Refusal::Gone)))?;

@@ -44,7 +44,7 @@ pub fn hands_out_plugged_frames(machine: &Machine)
 }
 
 /// Commits an operation. If nothing disturbed the operation since its Begin (`IsUndisturbed`), and
-/// the layout has the processor, a reply is `Done`.
+/// the layout has the processor, then the reply, if there is one, is `Done`.
 pub fn commit(
     alloc: Global,
     machine: &mut Machine,

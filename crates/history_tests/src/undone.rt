@@ -11,7 +11,7 @@ use std::test::Fail;
 /// The number of events that are played.
 const COUNT: u64 = 15;
 
-/// The number of the one record that is no step.
+/// The serial of the one record that is no step.
 const READ: u64 = 4;
 
 /// The operation that the plan begins.
@@ -124,7 +124,7 @@ fn plays(
     Ok(true)
 }
 
-/// Undoes all steps above a serial, and returns whether they are this many.
+/// Undoes all steps above a serial, and returns whether there are `count` of them.
 fn undoes(alloc: Global, machine: &mut Machine, serial: u64, count: u64) -> bool {
     let undo = Event::UndoAfter {
         serial: Serial(serial),

@@ -30,8 +30,9 @@ use Rattle.hp_lab_shell.specs.declared.words.Word.{Word}
 use Rattle.hp_lab_shell.specs.declared.words.Word.TheVariants.{Check, Explore, Find, Log, Never, Part, Picture, Sum, Told, Trace}
 use Rattle.hp_lab_shell.specs.Needs.{HasLines, IsPastEnd}
 
--- the text of an exploration, whatever ended it; the status is 0 if it finds what was asked for,
--- and 3 if not
+-- the text and the exit status of an exploration, whatever ended it. For the form Scenario, the status
+-- is 0 if there is an end with that number. For any other form, it is 0 if all interleavings were
+-- counted. Otherwise it is 3
 abbrev pub IsExploringOf : ExploreOptions → EndsForm → Option GroupBy → (input text : List ℕ)
     → (status : ℕ) → Type 0
 IsExploringOf asked form by input text status =
@@ -49,8 +50,8 @@ abbrev pub IsAddedOf : EndsForm → (input text : List ℕ) → (status : ℕ) �
 IsAddedOf form input text status =
     (found : Bool) × IsSumOf form input text found × (status ≡ (if found then 0 else 3))
 
--- the exit status of a search: one if it found an interleaving, another if there is none, and 3 if
--- that is not known
+-- the exit status of a search: `found_status` if it found an interleaving, `absent_status` if there is
+-- none, and 3 if that is not known
 abbrev pub find_status : FindResult → (found_status absent_status : ℕ) → ℕ
 find_status Found found_status absent_status = found_status
 find_status Absent found_status absent_status = absent_status
@@ -63,7 +64,7 @@ IsSearchOf setup wanted form found_status absent_status input text status =
     (result : FindResult) × IsFindingOf form input setup wanted text result
     × (status ≡ find_status result found_status absent_status)
 
--- the text and the exit status of each command
+-- the text and the exit status of each command. For a picture or a log, nothing is stated about the text
 abbrev pub IsAnswerOf : Word → (input text : List ℕ) → (status : ℕ) → Type 0
 IsAnswerOf (Check setup) input text status = IsCheckOf setup input text status
 IsAnswerOf (Explore asked form by jobs) input text status = IsExploringOf asked form by input text status
@@ -81,8 +82,8 @@ IsAnswerOf (Told form) input text status = HasJson form input text × (status �
 abbrev pub Answers : Word → (input text : List ℕ) → (status : ℕ) → Type 0
 Answers word input text status = HasLines word input × IsAnswerOf word input text status
 
--- when a command fails with a LabFault: an exploration or a search if it has this fault, and any
--- other command if memory runs out
+-- when a command fails with this LabFault. Explorations, parts of them and searches have their own
+-- causes; any other command fails only if memory runs out
 abbrev pub IsLabCause : Word → (input : List ℕ) → LabFault → Type 0
 IsLabCause (Check setup) input fault = fault ≡ OutOfMemory
 IsLabCause (Explore asked form by jobs) input fault = IsFaultWithin input asked.setup asked.limit fault
@@ -96,6 +97,8 @@ IsLabCause (Picture drawing) input fault = fault ≡ OutOfMemory
 IsLabCause Log input fault = fault ≡ OutOfMemory
 IsLabCause (Told form) input fault = fault ≡ OutOfMemory
 
+-- when a command fails with this ScenarioFault. Only the commands that show a scenario do. Explorations
+-- and searches have a LabFault instead, and a check reports what is wrong in its text
 abbrev pub IsScenarioCause : Word → (input : List ℕ) → ScenarioFault → Type 0
 IsScenarioCause (Check setup) input fault = ⊥
 IsScenarioCause (Explore asked form by jobs) input fault = ⊥
@@ -125,12 +128,13 @@ IsUnanswered word input WriteFailed = ⊥
 
 -- ---- from a reader to a writer
 
--- the command's text for these bytes was written, and nothing else, with this status
+-- the writer got the command's text for these bytes, and nothing else; `status` is the exit status
 abbrev pub ServesText : Word → (input : List ℕ) → (old new : Option (List ℕ)) → (status : ℕ) → Type 0
 ServesText word input old new status =
     (text : List ℕ) × Appends old new text × Answers word input text status
 
--- the command's text for the bytes that were read was written, and nothing else, with this status
+-- if it is known which bytes were read, the writer got the command's text for them, and nothing else;
+-- `status` is the exit status
 abbrev pub Serves : Word → (known old new : Option (List ℕ)) → (status : ℕ) → Type 0
 Serves word known old new status = IfSome known (λ input. ServesText word input old new status)
 

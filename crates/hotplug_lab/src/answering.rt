@@ -102,8 +102,8 @@ fn summed(alloc: Global, input: &[u8], form: EndsForm) -> Result<TextAndStatus, 
     Ok(answer_with(finding, 0, 3))
 }
 
-/// Searches for an interleaving whose end has each of the wanted lines. The status is 0 if there is
-/// one, and 3 if there is none or it is not known.
+/// Searches for an interleaving whose end meets each of the wanted lines. The status is 0 if there
+/// is one, and 3 if there is none or that is not known.
 fn found<W: Watch>(
     alloc: Global,
     input: &[u8],
@@ -120,8 +120,8 @@ fn found<W: Watch>(
     Ok(find_answer(finding, 0, 3))
 }
 
-/// Searches for an interleaving whose end has each of the wanted lines, to show that there is none.
-/// The status is 0 if there is none, and 3 if there is one or it is not known.
+/// Searches for an interleaving whose end meets each of the wanted lines, to show that there is
+/// none. The status is 0 if there is none, and 3 if there is one or that is not known.
 fn never<W: Watch>(
     alloc: Global,
     input: &[u8],
@@ -138,8 +138,8 @@ fn never<W: Watch>(
     Ok(find_answer(finding, 3, 0))
 }
 
-/// Returns the text of a search for an end. The status is `found` if it found one, `absent` if
-/// there is none, and 3 if that is not known.
+/// Returns the text and the exit status of a search for an end. The status is `found` if an
+/// interleaving ends as wanted, `absent` if none does, and 3 if that is not known.
 fn find_answer(finding: FindText, found: u8, absent: u8) -> TextAndStatus
     ensures text { string_bytes result.text ≡ string_bytes finding.text }
     ensures status { result.status ≡ find_status finding.result found absent }
@@ -155,7 +155,8 @@ fn find_answer(finding: FindText, found: u8, absent: u8) -> TextAndStatus
     }
 }
 
-/// Returns a search's text, with the status `found` if it found something, and `absent` if not.
+/// Returns an exploration's text, with the status `found` if its `is_found` is true, and `absent`
+/// if not.
 fn answer_with(finding: SearchText, found: u8, absent: u8) -> TextAndStatus
     ensures text { string_bytes result.text ≡ string_bytes finding.text }
     ensures status { result.status ≡ (if finding.is_found then found else absent) }

@@ -11,8 +11,8 @@
 //! - 1 after a fault, which standard error names, and after a check that finds faults,
 //! - 2 for a wrong command line,
 //! - 3 if a search finds nothing, finds what it should not, or is ended before it knows; if there
-//!   is no end with the number that was asked for; if only the first interleavings are counted; and
-//!   if a log is unlawful,
+//!   is no end with the number that was asked for; if only the first interleavings are counted (0
+//!   with `--scenario`); and if a log is unlawful,
 //! - 0 otherwise.
 //!
 //! The status is the same if standard error cannot be written. The help is a text like any other:

@@ -1,4 +1,4 @@
--- What a contract sees of the layer of memory blocks.
+-- The value of the layer of memory blocks in contracts, and statements about it.
 use Rattle.std.specs.Prelude.{◌≡◌, ℕ, ◌<◌, ◌≤◌, true, false}
 use Rattle.hp_units.specs.InLayout.{AreBlocksOf}
 use Rattle.hp_units.specs.LayoutParts.{LayoutParts}
@@ -10,7 +10,7 @@ pub record BlocksValue : Type 0 where
   pub layout : LayoutParts
   pub blocks : Blocks
 
--- every layer has a row per memory block of its layout, at most 256
+-- the rows are those of the layout: one per memory block, and at most 256
 pub record AreLayerOf (l : LayoutParts) (bs : Blocks) : Type 0 where
   pub rows : AreBlocksOf l bs
   pub few : l.blocks ≤ 256

@@ -85,8 +85,8 @@ impl Blocks {
         self.rows[at]
     }
 
-    /// Claims a memory block, which no other operation holds. With the wish Off, the block is then
-    /// going (Linux guide: offlining). Notes one delta.
+    /// Claims a memory block for the operation `op`; no other operation may hold it. With the wish
+    /// Off, the block is then going (Linux guide: offlining). Notes one delta.
     pub fn claim(&mut self, block: Block, op: Serial, wish: Wish, tape: &mut Tape)
         requires block { block < self.old.layout.blocks }
         requires one { IfSome (row_of self.old.blocks block).claim (λ claim. claim.op ≡ op) }

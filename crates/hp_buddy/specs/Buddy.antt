@@ -1,4 +1,4 @@
--- What a contract sees of the layer of free areas, and what its calls require and keep.
+-- The value of the layer of free areas in contracts, and what its calls require and keep.
 use Rattle.std.specs.Prelude.{ℕ, ◌≡◌, ◌+◌, ◌*◌, ◌/◌, ◌%◌, ◌^◌, ◌<◌, ◌≤◌, true, List, [], ◌∷◌, Option, Some, None, length, if◌then◌else◌}
 use Rattle.hp_units.specs.declared.rows.Class.{Class}
 use Rattle.hp_units.specs.declared.rows.Kind.{Kind}

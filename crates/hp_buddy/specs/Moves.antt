@@ -4,7 +4,8 @@ use Rattle.hp_units.specs.declared.rows.Class.{Class}
 use Rattle.hp_units.specs.Memory.{FreeAreas, free_list}
 use Rattle.hp_units.specs.FreeAreas.{is_on, with_back, without_free}
 
--- a block that is free in one class goes to the back of another class's list
+-- if the block is free in the class `from`, it goes to the back of the list of the class `to`;
+-- otherwise nothing changes
 abbrev pub move_one : FreeAreas → (from to : Class) → (order frame : ℕ) → FreeAreas
 move_one a from to order frame =
     if is_on frame (free_list a from order) then with_back (without_free a from order frame) to order frame

@@ -85,7 +85,8 @@ IsWarning lines (finding.Warning number w) = (1 ≤ number) × (number ≤ lines
 IsWarning lines f = ⊥
 
 -- what causes a finding about a JSON value. Either the value does not have the form of a scenario,
--- or its layout is past its limits. Or the entry of `calls` with this number and text is not a line
+-- or its layout is past its limits. Or the entry of `calls` with this number is this text, which
+-- cannot be read as a line
 abbrev pub ValueCause : Data → Finding → Type 0
 ValueCause d (finding.Shape s) = form_of d ≡ None
 ValueCause d (finding.Layout out) = IsPastLimits d

@@ -1,4 +1,4 @@
--- The entries of `calls`, and the entries that are not lines.
+-- The entries of `calls`, and those of them that cannot be read as lines.
 use Rattle.std.specs.Prelude.{◌≡◌, ℕ, ◌+◌, Bool, false, List, [], ◌∷◌, ◌++◌, codes, take, Option, Some, None, is_some, slice_get, option_and_then, if◌then◌else◌}
 use Rattle.std.specs.Option.{option_or}
 use Rattle.serde_json.specs.Data.{Data, Items, no_items, item}
@@ -28,12 +28,12 @@ entries_in d = items_or_none (option_and_then as_array (get (codes "calls") d))
 
 -- ---- the names of results
 
--- the text is a line; `bound` has the names that earlier lines gave to their results
+-- the text can be read as a line; `bound` has the names that earlier lines gave to their results
 abbrev pub is_line_after : Bound → (text : List ℕ) → Bool
 is_line_after bound text = is_some (line_says (plain_in bound text).text)
 
--- the bindings of names after the entry at index `place`, which may be a text. A line that names
--- its result adds this name
+-- the bindings of names after the entry at index `place`, given its text; None if it is no text. A
+-- line that names its result adds this name
 abbrev pub bound_text : (place : ℕ) → Bound → Option (List ℕ) → Bound
 bound_text place bound None = bound
 bound_text place bound (Some text) =
@@ -48,10 +48,10 @@ abbrev pub bound_through : (place : ℕ) → Bound → List Data → Bound
 bound_through place bound [] = bound
 bound_through place bound (d ∷ ds) = bound_through (place + 1) (bound_past place bound d) ds
 
--- ---- entries that are not lines
+-- ---- entries that cannot be read as lines
 
--- the entry with this number, counted from 1, is this text; the text is not a line after the lines
--- before it
+-- the entry with this number, counted from 1, is this text. It cannot be read as a line, given the
+-- names that the lines before it gave to their results
 pub record IsBadEntry (entries : List Data) (number : ℕ) (text : List ℕ) : Type 0 where
   pub at : ℕ
   pub entry : Data
@@ -60,13 +60,13 @@ pub record IsBadEntry (entries : List Data) (number : ℕ) (text : List ℕ) : T
   pub is_text : as_str entry ≡ Some text
   pub no_line : is_line_after (bound_through 0 [] (take at entries)) text ≡ false
 
--- the finding reports an entry that is not a line
+-- the finding reports one of these entries, a text that cannot be read as a line
 abbrev pub IsBadCall : (entries : List Data) → Finding → Type 0
 IsBadCall entries (finding.BadCall number text names) = IsBadEntry entries number text
 IsBadCall entries f = ⊥
 
--- the finding reports this entry, at index `place`. The entry is not a line after lines with these
--- bindings of names
+-- the finding reports this entry, which is at index `place`. It is a text that cannot be read as a
+-- line, given these bindings of names
 abbrev pub IsBadText : (place : ℕ) → Bound → Data → Finding → Type 0
 IsBadText place bound d (finding.BadCall number text names) =
     (number ≡ place + 1) × (as_str d ≡ Some text) × (is_line_after bound text ≡ false)
@@ -78,17 +78,18 @@ abbrev pub AddsBadCall : (number : ℕ) → (text : List ℕ) → (old new : Lis
 AddsBadCall number text old new =
     (names : Option NameTypo) × (new ≡ old ++ finding.BadCall number text names ∷ [])
 
--- the fault of reading a text at index `place`; None if it is a line, or if there is no text
+-- the fault of reading a text at index `place`; None if it can be read as a line, or if there is no
+-- text
 abbrev pub text_fault : (place : ℕ) → Bound → Option (List ℕ) → Option ScenarioFault
 text_fault place bound None = None
 text_fault place bound (Some text) = if is_line_after bound text then None else Some (BadLine (place + 1))
 
--- the fault of reading an entry at index `place`; None if it is a line, or no text
+-- the fault of reading an entry at index `place`; None if it can be read as a line, or is no text
 abbrev pub entry_fault : (place : ℕ) → Bound → Data → Option ScenarioFault
 entry_fault place bound d = text_fault place bound (as_str d)
 
--- the first fault of entries, of which the first has the index `place`; `bound` has the names of
--- the lines before them
+-- the first fault of these entries, the first of which has index `place`. `bound` has the names
+-- that the lines before them gave to their results
 abbrev pub calls_fault : (place : ℕ) → Bound → List Data → Option ScenarioFault
 calls_fault place bound [] = None
 calls_fault place bound (d ∷ ds) =

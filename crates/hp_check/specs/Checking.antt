@@ -68,9 +68,10 @@ IsPastLimits d = (l : LayoutParts) × (parts_in d ≡ Some l) × (is_some (layou
 abbrev pub IsScenarioWith : (P : ℕ → Type 0) → (input : List ℕ) → Type 0
 IsScenarioWith P input = (s : NamedValue) × (named_in input ≡ Ok s) × P (length s.scenario.lines)
 
--- the cause of a finding. Either the text is not JSON, or the value has another form, or the layout
--- is past its limits. Or the entry of `calls` with this number and text is not a line. Only a
--- scenario has warnings, each about a key or about one of its lines
+-- the cause of a finding. Either the text is not JSON, or its value does not have the form of a
+-- scenario, or its layout is past its limits. Or the entry of `calls` with this number is this
+-- text, which cannot be read as a line. Only a scenario has warnings, each about a key or about one
+-- of its lines
 abbrev pub HasCause : (input : List ℕ) → Finding → Type 0
 HasCause input (finding.NotJson hint line column) = json_of input ≡ None
 HasCause input (finding.Shape s) = IsJsonWith (λ d. form_of d ≡ None) input

@@ -26,8 +26,8 @@ pub record IsSignLine (input : List ℕ) (line : ℕ) : Type 0 where
 abbrev pub AreSignLines : (input lines : List ℕ) → Type 0
 AreSignLines input lines = All (IsSignLine input) lines
 
--- if each line in `old` has a byte other than white space, and so has `line` in case `is_noted` is
--- true, then each line in `new` has one
+-- for each text: if each line in `old` has a byte other than white space, and `line` has one or
+-- `is_noted` is false, then each line in `new` has one
 abbrev pub KeepSignLines : (is_noted : Bool) → (line : ℕ) → (old new : List ℕ) → Type 0
 KeepSignLines is_noted line old new =
     (input : List ℕ) → AreSignLines input old → (is_noted ≡ true → IsSignLine input line)

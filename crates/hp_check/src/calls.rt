@@ -1,4 +1,4 @@
-//! The texts of `calls` that are not lines.
+//! The texts of `calls` that cannot be read as lines.
 ghost use Rattle.std.specs.Prelude.{◌≡◌, ◌^◌, ◌<◌, [], OnOk, map};
 ghost use Rattle.serde_json.specs.View.{view};
 ghost use Rattle.hp_names.specs.Bindings.{bound_after};
@@ -13,7 +13,7 @@ use hp_units::Text;
 use serde_json::Value;
 use std::alloc::{AllocError, Global};
 
-/// Adds a finding for each text of a scenario's `calls` that is not a line.
+/// Adds a finding for each text of a scenario's `calls` that cannot be read as a line.
 pub(crate) fn push_calls(
     found: &mut Vec<Finding>,
     alloc: Global,
@@ -44,9 +44,9 @@ fn entries_of(value: &Value) -> &[Value]
     }
 }
 
-/// Adds a finding if the entry at index `place` is a text and not a line. `bound` has the names of
-/// results of the lines before it. If the entry is a line that names its result, adds that name to
-/// `bound`.
+/// Adds a finding if the entry at index `place` is a text that cannot be read as a line. `bound`
+/// has the names that the lines before it gave to their results. If the entry is a line that names
+/// its result, adds that name to `bound`.
 fn push_entry(
     found: &mut Vec<Finding>,
     bound: &mut Bindings,
@@ -80,8 +80,8 @@ fn bind(bound: &mut Bindings, naming: Option<Naming>, place: usize) -> Result<()
     }
 }
 
-/// Adds the finding for text `number` of `calls`, which is not a line. `bound` has the names of
-/// results of the lines before it.
+/// Adds the finding for text `number` of `calls`, which cannot be read as a line. `bound` has the
+/// names that the lines before it gave to their results.
 fn push_bad_call(
     found: &mut Vec<Finding>,
     bound: &Bindings,

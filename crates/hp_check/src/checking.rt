@@ -22,10 +22,10 @@ use std::alloc::{AllocError, Global};
 
 /// Finds all that is wrong with a scenario: its faults, or the warnings of a text without faults.
 ///
-/// Faults come in the order in which `NamedScenario::read` checks for them, which stops at the
-/// first. A text that is not JSON has one fault. Other faults concern the keys and the kinds of
-/// values, the layout's ranges if all its parts can be read, and each text of `calls` that is not a
-/// line.
+/// Faults come in the order in which `NamedScenario::read` checks for them; that function stops at
+/// the first. A text that is not JSON has one fault. Other faults concern the keys and the kinds of
+/// values, the layout's ranges if all its parts can be read, and each text of `calls` that cannot
+/// be read as a line.
 ///
 /// Warnings concern keys that the text has more than once, and then lines; a line has at most one.
 /// The first `setup` lines run in order, before the scripts of the processors.
@@ -40,7 +40,7 @@ pub fn check(alloc: Global, input: &[u8], setup: u64) -> Result<Vec<Finding>, Al
 }
 
 /// Returns all that is wrong with bytes that `NamedScenario::read` refused with this fault. Fails
-/// if the fault is out of memory.
+/// if the fault is `OutOfMemory`.
 fn unless_memory(
     alloc: Global,
     input: &[u8],
@@ -98,8 +98,8 @@ fn value_faults(alloc: Global, value: &Value) -> Result<Vec<Finding>, AllocError
     Ok(found)
 }
 
-/// Returns the fault of a text that is not JSON, given the error of the JSON reader. Fails if that
-/// error is out of memory.
+/// Returns the fault of a text that is not JSON, given the error of the JSON reader. Fails if the
+/// reader ran out of memory.
 fn no_value(alloc: Global, input: &[u8], error: &Error) -> Result<Vec<Finding>, AllocError>
     ensures { IfOk result (λ found.
         Adds IsNotJson (Some ScenarioFault.NotJson) [] found.items × (¬ IsMemory error.now)) }

@@ -1,4 +1,4 @@
-//! What was expected in place of a text that is not a line.
+//! What was expected in place of a text that cannot be read as a line.
 ghost use Rattle.std.specs.Prelude.{OnOk, string_bytes};
 ghost use Rattle.hp_check.specs.Hints.{AddsText};
 
@@ -7,9 +7,9 @@ use crate::typos::write_typo;
 use hp_units::number32;
 use std::alloc::AllocError;
 
-/// Writes why a text is not a line. If it begins or ends with a space, writes that alone. Otherwise
-/// writes the wrong name or word, if it can be found, and what was expected. `names` is what
-/// `name_typo` returned for the text.
+/// Writes why a text cannot be read as a line. If it begins or ends with a space, writes that
+/// alone. Otherwise writes the wrong name or word, if it can be found, and what was expected.
+/// `names` is what `name_typo` returned for the text.
 pub fn write_expected(
     out: &mut String,
     text: &str,
@@ -41,9 +41,9 @@ fn write_wrong_word(
     }
 }
 
-/// Returns what to report of a text that is not a line. It is that the first word is no processor's
-/// number, or that the verb is missing or unknown, or else the form that the verb requires. For
-/// some unknown verbs, it has a guess at the line.
+/// Returns what to report of a text that cannot be read as a line: that its first word is no number
+/// of a processor, that its verb is missing or unknown, or else the form that the verb requires.
+/// For some unknown verbs, this includes a guess at the line.
 fn wanted(text: &str) -> &'static str {
     let mut words = text.split(' ');
     let cpu = words.next().and_then(|word| number32(word));

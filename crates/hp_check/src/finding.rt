@@ -22,8 +22,8 @@ pub enum Finding {
     Shape(Shape),
     /// A part of the layout is out of its range.
     Layout(OutOfRange),
-    /// A text of `calls` is not a line. `names` is what is wrong with its names for results, if
-    /// they are the reason.
+    /// A text of `calls` cannot be read as a line. `names` is what is wrong with its names for
+    /// results, if they are the reason.
     BadCall {
         number: u64,
         text: Text,
@@ -218,7 +218,8 @@ pub enum Warning {
     NoBegin {
         op: Serial,
     },
-    /// More turns of a plan than a history of this many records has room for.
+    /// A plan of this many turns. With its begin, a round of drains and its commit, they do not fit
+    /// into a history of this many records.
     Turns {
         turns: u32,
         history: u64,

@@ -1,4 +1,4 @@
-//! What is wrong with the names for results in a text that is not a line.
+//! What is wrong with the names for results in a text that cannot be read as a line.
 ghost use Rattle.std.specs.Prelude.{OnOk, string_bytes};
 ghost use Rattle.hp_check.specs.Hints.{AddsText};
 
@@ -9,7 +9,7 @@ use hp_units::Text;
 use std::alloc::{AllocError, Global};
 use strsim::generic_levenshtein;
 
-/// What is wrong with the names for results in a text that is not a line.
+/// A mistake in a `$NAME` or an `as NAME`, because of which a text cannot be read as a line.
 #[derive(Drop)]
 pub struct NameTypo {
     /// The fault.
@@ -29,8 +29,9 @@ pub enum Meant {
     Other(Text),
 }
 
-/// Returns what is wrong with the names for results in a text that is not a line. `bound` has the
-/// names of results of the lines before it. Returns `None` if the names are not the reason.
+/// Returns what is wrong with the names for results in a text that cannot be read as a line.
+/// `bound` has the names that the lines before it gave to their results. Returns `None` if the
+/// names are not the reason.
 pub fn name_typo(
     alloc: Global,
     text: &str,

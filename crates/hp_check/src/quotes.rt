@@ -25,7 +25,8 @@ pub(crate) fn write_unexpected(out: &mut String, c: char) -> Result<(), AllocErr
 }
 
 /// Returns whether a character is odd: a control character, or one beyond ASCII. No punctuation of
-/// JSON and no word of a line has one.
+/// JSON has one. In a line only the word and the path of an `echo` or a `cat` may have one, and no
+/// control file takes it.
 pub(crate) fn is_odd(c: char) -> bool {
     !c.is_ascii() || c.is_ascii_control()
 }

@@ -77,7 +77,7 @@ fn push_parts(found: &mut Vec<Finding>, parts: &Parts<'_>) -> Result<(), AllocEr
     push_each(found, &outs)
 }
 
-/// Adds a finding for each entry of a list that has a part.
+/// Adds a finding for each entry of `outs` that is not `None`.
 fn push_each(found: &mut Vec<Finding>, outs: &[Option<OutOfRange>]) -> Result<(), AllocError>
     ensures { OnOk result
         (Adds IsLayout (first_at out_fault 1 outs.now) found.old.items found.new.items) }

@@ -152,7 +152,7 @@ fn push_missing(
     Ok(())
 }
 
-/// Adds what is wrong with the object at `layout`, if there is one.
+/// Adds what is wrong with the value at `layout`, if there is one.
 fn push_layout(
     found: &mut Vec<Finding>,
     alloc: Global,

@@ -1,4 +1,4 @@
-//! The first wrong word of a text that is not a line.
+//! The first wrong word of a text that cannot be read as a line.
 ghost use Rattle.std.specs.Prelude.{OnOk, string_bytes};
 ghost use Rattle.hp_check.specs.Hints.{AddsText};
 
@@ -22,8 +22,8 @@ enum WordKind {
     Word,
 }
 
-/// Writes the first wrong word of a text that is not a line, and what is wrong with it, if that can
-/// be found.
+/// Writes the first wrong word of a text that cannot be read as a line, and what is wrong with it,
+/// if that can be found.
 pub(crate) fn write_typo(out: &mut String, text: &str) -> Result<(), AllocError>
     ensures { OnOk result (AddsText (string_bytes out.old) (string_bytes out.new)) }
 {
@@ -36,8 +36,8 @@ pub(crate) fn write_typo(out: &mut String, text: &str) -> Result<(), AllocError>
     }
 }
 
-/// Returns the first word of a text in which a mistake is found, and what the mistake is. Each word
-/// is checked for the kind that its place requires: the processor's number, the verb, and what
+/// Returns the first word in which a mistake is found, and what the mistake is. Each word is
+/// checked for the kind that is required at its index: the processor's number, the verb, and what
 /// comes after it.
 fn typo_in(text: &str) -> Option<(&str, &'static str)> {
     let mut words = text.split(' ');

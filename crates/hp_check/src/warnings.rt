@@ -106,9 +106,9 @@ fn cat_warning(layout: &Layout, path: &str) -> Option<Warning> {
     }
 }
 
-/// Returns a warning if the history has no room for all calls of a plan: the begin, a drain of each
-/// processor's lists, all its turns, and a commit. The plan is that of a `plan` line, or one that
-/// an `echo` asks for.
+/// Returns a warning if the history has no room for a plan's begin, a drain of each processor's
+/// lists, all its turns, and its commit. A plan that has to drain again makes more calls. The plan
+/// is that of a `plan` line, or one that an `echo` asks for.
 fn turns_warning(layout: &Layout, work: &Work) -> Option<Warning> {
     let Asked::Plan { plan: _, turns } = work.asked() else {
         return None;

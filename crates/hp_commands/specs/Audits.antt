@@ -1,5 +1,5 @@
--- Volumes (each has the records that one seal handed out) and a machine's history that lead to its
--- state.
+-- Whether volumes (each has the records that one seal handed out) and then a machine's history lead to
+-- the machine's state.
 use Rattle.std.specs.Prelude.{ℕ, ◌≡◌, ◌⊎◌, List}
 use Rattle.hp_units.specs.History.{IsLegal, value_of}
 use Rattle.hp_machine.specs.Machine.{MachineValue}
@@ -30,7 +30,7 @@ pub record IsAudited (volumes : List Volume) (m : MachineValue) : Type 0 where
   pub legal : IsLegal m.layout m.base m.before m.history
   pub state : m.state ≡ value_of m.layout m.base m.history
 
--- the first record at fault, in a volume or in the machine's history
+-- the fault is that of the first record at fault, in the volumes or in the machine's history
 abbrev pub HasWrongRecord : List Volume → MachineValue → ReplayFault → Type 0
 HasWrongRecord volumes m fault =
     ((at : ℕ) × IsChainFault m.layout volumes (chain.Replay at fault))

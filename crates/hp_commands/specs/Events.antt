@@ -22,7 +22,7 @@ abbrev pub with_record : MachineValue → Record → MachineValue
 with_record m r =
     record m { history = m.history ++ r ∷ []; state = value_of m.layout m.base (m.history ++ r ∷ []) }
 
--- the text of an event, and the machine after it
+-- the text of an event, and the machine after it, if memory does not run out
 unfoldable pub event_text : MachineValue → (cpu : ℕ) → Event → List ℕ
 event_text m cpu event =
     if is_full m then unrecorded_line HistoryFull else reply_line (next_record m cpu event).serial

@@ -65,7 +65,7 @@ chain_fault_from (chain.WrongBase at) = BrokenChain at
 chain_fault_from (chain.Replay at fault) = replay_fault_from fault
 chain_fault_from chain.OutOfMemory = OutOfMemory
 
--- the bytes that were read, if they are known, are not a scenario, with this fault
+-- if the bytes that were read are known, they are not a scenario, with this fault
 abbrev pub IsNone : Option (List ℕ) → ScenarioFault → Type 0
 IsNone known fault = IfSome known (λ input. scenario_in input ≡ Err fault)
 
@@ -97,7 +97,7 @@ IsWorkFault l scripts (BrokenChain at) =
     (seals_in_all scripts ≢ 0) × IsUnclosed l scripts (closing.WrongVolume at)
 IsWorkFault l scripts _ = ⊥
 
--- the bytes are a scenario whose scripts are not run to the end, with this fault
+-- the bytes are a scenario whose scripts are not run to the end, for this reason
 pub record IsUnfinished (input : List ℕ) (fault : ProgramFault) : Type 0 where
   pub scenario : ScenarioValue
   pub read : scenario_in input ≡ Ok scenario
@@ -105,7 +105,7 @@ pub record IsUnfinished (input : List ℕ) (fault : ProgramFault) : Type 0 where
   pub parted : scripts_of scenario ≡ Ok scripts
   pub why : IsWorkFault scenario.layout scripts fault
 
--- the bytes are a scenario whose scripts are run to the end, and the records are at fault
+-- the bytes are a scenario whose scripts are run to the end, and an audit fails with this fault
 pub record IsRefuted (input : List ℕ) (fault : ProgramFault) : Type 0 where
   pub ends : List (List LineEnd)
   pub volumes : List Volume

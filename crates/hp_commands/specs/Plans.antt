@@ -23,7 +23,7 @@ pub record PlanRun : Type 0 where
   pub fault : Option CallFault
 
 -- a run with an event to come goes on if the history has room, and otherwise ends with the fault
--- HistoryFull; a run without one has ended
+-- HistoryFull; a run without an event to come has ended
 unfoldable pub going_on : List Receipt → MachineValue → (more : Event → PlanRun) → (full : Bool)
     → Option Event → PlanRun
 going_on receipts m more full None = record { receipts = receipts; machine = m; fault = None }
@@ -45,7 +45,7 @@ run_on (suc room) turns plan cpu receipts m =
 abbrev pub plan_run : MachineValue → (cpu turns : ℕ) → List Item → PlanRun
 plan_run m cpu turns plan = run_on (m.layout.history - length m.history) turns plan cpu [] m
 
--- the end of a run
+-- the end of a run; `Undone` also if there is no fault and the receipts give no end
 abbrev pub end_with : Option CallFault → List Receipt → OpEnd
 end_with None receipts = unwrap_or (end_of receipts) Undone
 end_with (Some fault) receipts = Left (operation_of receipts) fault

@@ -15,7 +15,7 @@ use std::error::Error;
 use std::fmt;
 
 /// Why the program failed. Nothing was written, except for `WriteFailed`: then some of the text may
-/// be out.
+/// have been written.
 #[derive(Clone, Copy, Debug, PartialEq, Eq)]
 pub enum ProgramFault {
     /// The reader failed.
@@ -28,7 +28,7 @@ pub enum ProgramFault {
     BadShape,
     /// The scenario's layout is out of its limits.
     Layout(LayoutFault),
-    /// A string of `calls` is not a line; lines are counted from 1.
+    /// A string of `calls` cannot be read as a line; lines are counted from 1.
     BadLine { line: u64 },
     /// No worker (a thread of `hotplug run`) may run the line: it reads a control file, or its
     /// processor is not in the layout. Lines are counted from 1.
@@ -43,15 +43,16 @@ pub enum ProgramFault {
     Mismatch { serial: Serial },
     /// The record with this serial has another reply than the replay gives.
     WrongReply { serial: Serial },
-    /// The record at this place, counted from 0, does not have the next serial.
+    /// The record with index `at`, in its volume or in the machine's history, does not
+    /// have the next serial.
     WrongSerial { at: u64 },
     /// The records that the seals handed out do not lead to the machine's base (its state at the
     /// last seal or at boot), or its later records do not lead to its state.
     AuditDiffers,
     /// The writer failed.
     WriteFailed,
-    /// The volume (what one seal handed out) at place `at`, counted from 0, does not follow those
-    /// before it. If `at` is the number of volumes, they do not hold all sealed records.
+    /// Volume `at` (what one seal handed out), counted from 0, does not follow those before it. If
+    /// `at` is the number of volumes, they do not hold all sealed records.
     BrokenChain { at: u64 },
 }
 

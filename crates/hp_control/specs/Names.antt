@@ -1,5 +1,5 @@
--- The variants of zones, states and classes under names of their own, exported again from one
--- place. Declares nothing.
+-- Exports again, from one place, the types and variants of rows and of control files. Some variants are
+-- renamed, such as `Normal` to `NormalZone`. Declares nothing.
 pub use Rattle.hp_units.specs.declared.rows.Zone.{Zone}
 pub use Rattle.hp_units.specs.declared.rows.Zone.TheVariants.{Normal as NormalZone, Movable as MovableZone}
 pub use Rattle.hp_units.specs.declared.rows.Class.{Class}

@@ -5,7 +5,7 @@ use Rattle.hp_units.specs.LayoutParts.{LayoutParts}
 use Rattle.hp_units.specs.Memory.{FreeAreas, free_list}
 use Rattle.hp_control.specs.Names.{Zone, NormalZone, MovableZone, Class, Nu, Nm, Mm, IsoN, IsoM}
 
--- a text right-aligned in this many places
+-- a text with spaces before it, so that it has at least `places` bytes
 abbrev pub aligned : ℕ → List ℕ → List ℕ
 aligned places text = replicate (places - length text) 32 ++ text
 
@@ -23,7 +23,7 @@ abbrev pub zone_count : FreeAreas → Zone → ℕ → ℕ
 zone_count a NormalZone order = free_count a Nu order + free_count a Nm order + free_count a IsoN order
 zone_count a MovableZone order = free_count a Mm order + free_count a IsoM order
 
--- a count with the space before it
+-- a count, right-aligned in 6 columns, with a space before it
 unfoldable pub count_text : ℕ → List ℕ
 count_text count = codes " " ++ aligned 6 (decimal count)
 

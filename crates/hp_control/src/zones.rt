@@ -53,7 +53,7 @@ fn write_counts(text: &mut String, memory: &Memory, zone: Zone) -> Result<(), Al
     Ok(())
 }
 
-/// Writes a count, right-aligned, with a space before it.
+/// Writes a count, right-aligned in 6 columns, with a space before it.
 #[tactic(auto, unfolding(crate::specs::Zones::count_text))]
 fn write_count(text: &mut String, count: u64) -> Result<(), AllocError>
     ensures { OnOk result (string_bytes text.new ≡ string_bytes text.old ++ means.count_text count) }
@@ -61,7 +61,7 @@ fn write_count(text: &mut String, count: u64) -> Result<(), AllocError>
     write!(text, " {count:>6}")
 }
 
-/// Returns the start of a zone's line, with the zone's name right-aligned in 8 places.
+/// Returns the start of a zone's line, with the zone's name right-aligned in 8 columns.
 fn zone_head(zone: Zone) -> &'static str
     ensures { result.now ≡ means.zone_head zone }
 {

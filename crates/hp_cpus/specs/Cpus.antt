@@ -1,4 +1,4 @@
--- What a contract sees of the processors' lists, and what the calls require of them together with
+-- The value of the processors' lists in contracts, and what the calls require of them together with
 -- the free areas.
 use Rattle.std.specs.Prelude.{ℕ, ◌≡◌, ◌+◌, ◌*◌, ◌≤◌, ◌==◌, List, [], length, slice_index_or, slice_set, sum_by, count_by, if◌then◌else◌}
 use Rattle.hp_units.specs.declared.rows.Pool.{Pool}

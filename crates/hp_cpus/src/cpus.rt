@@ -106,7 +106,8 @@ impl Cpus {
     /// the list is this model's choice). Refills an empty list first, with up to a batch of frames
     /// from the free areas.
     ///
-    /// If the free areas have no frame for the pool, returns `None` and changes nothing.
+    /// If the list is empty and the free areas have no frame for the pool, returns `None` and
+    /// changes nothing.
     pub fn take_one(
         &mut self,
         cpu: Cpu,

@@ -75,12 +75,12 @@ abbrev pub IsPushed : (old : List ObservedLine) → (text : List ℕ) → (new :
 IsPushed old text new =
     (answer : LineAnswer) × (text ≡ answer_text answer) × (new ≡ old ++ untimed answer ∷ [])
 
--- the first lines are a processor's heading and `count` answers
+-- the first lines of `rest` are a processor's heading and `count` answers, whose times are not known
 abbrev pub IsScriptAt : (rest : List (List ℕ)) → (cpu count : ℕ) → List ObservedLine → Type 0
 IsScriptAt rest cpu count seen =
     (rest ≡ script_lines cpu seen ++ drop (count + 1) rest) × (length seen ≡ count) × AreUntimed seen
 
--- the lines are a run's output with these answers
+-- the lines are a run's output with these answers, whose times are not known
 abbrev pub AreRun : List (List ℕ) → List (List ObservedLine) → Type 0
 AreRun texts seen =
     (rest : List (List ℕ)) × (texts ≡ run_lines 0 seen ++ rest) × AreLast rest × AreAllUntimed seen

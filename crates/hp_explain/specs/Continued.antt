@@ -95,8 +95,8 @@ run_alike g seen h k cpu many runs lines one here line c others there =
     (runs lines one here
     (subst (λ (n : ℕ). slice_get lines n ≡ Some one) (sym (many cpu)) line) c others there)
 
--- two lists of records are equal but for the operations. The first has a record by the same processor
--- at the index that `r` has in the second
+-- `more` begins with records that differ from `before` at most in the numbers of operations. The record
+-- after them is by the processor of `r`
 record IsSplitAlike (more before : List Record) (r : Record) : Type 0 where
   pub mid : List Record
   pub other : Record
@@ -105,7 +105,7 @@ record IsSplitAlike (more before : List Record) (r : Record) : Type 0 where
   pub same : map anonymous_record mid ≡ map anonymous_record before
   pub cpu : other.cpu ≡ r.cpu
 
--- two such lists with one more record in front of each
+-- the same with one more record in front of `more` and of `before`
 split_longer : (x y : Record) (more before : List Record) (r : Record)
     → anonymous_record x ≡ anonymous_record y → IsSplitAlike more before r
     → IsSplitAlike (x ∷ more) (y ∷ before) r
@@ -183,8 +183,8 @@ as_long g h k rest same =
       same.alike.same.calls,
     )
 
--- the continuation that is explained from `h` leads from `k` to further records that are equal but
--- for the numbers of operations. It is explained there too
+-- `h` goes on to `end`. From `k`, the continuation `rest` gives the same further records, except that
+-- the numbers of operations may differ, and it is explained there
 record IsExplainedOn (g : Setting) (seen : List (List ObservedLine)) (rest : List ℕ) (h k : List Record)
     (end : List Record) : Type 0 where
   pub on : ContinuesAs g (schedule_of k) rest h k end

@@ -20,8 +20,8 @@ MayRunAfter g seen schedule cpu =
     (news : List Record) × (plays g schedule ≡ Some news) × MayRun g seen news cpu
 
 -- the aim of the search: it seeks the orders that explain the observed answers, and the explained
--- beginnings that are longer than the longest known one. The search returns only an order that
--- explains all answers. `room` is the number of calls that the history has room for
+-- beginnings that are longer than the longest known one. The search returns only an order that explains
+-- all answers. `room` is the number of further calls that can be recorded
 abbrev pub aim_of : Setting → List (List ObservedLine) → (room : ℕ) → (longest : List ℕ) → AimValue
 aim_of g seen room longest = record {
   sought = λ s. Explains g seen s ⊎ (IsExplained g seen s × (length longest < length s));

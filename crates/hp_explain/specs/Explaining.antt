@@ -14,7 +14,7 @@ use Rattle.hp_explain.specs.declared.observed.ObservedLine.{ObservedLine}
 
 -- ---- the answers that were seen
 
--- no line has a lower time `to`, by which it was answered, than an earlier line
+-- no line's `to`, the time by which it was answered, is below that of an earlier line
 abbrev pub AreRising : List ObservedLine → Type 0
 AreRising lines =
     (i j : ℕ) (a b : ObservedLine) → slice_get lines i ≡ Some a → slice_get lines j ≡ Some b → i ≤ j

@@ -37,7 +37,8 @@ IsWaitingFor g seen news cpu None = MayRun g seen news cpu
 
 -- ---- answers
 
--- the new records add these answers to the answers to the processor's lines
+-- the answers to the processor's lines after the records `news` are those after `before`, followed by
+-- `more`
 abbrev pub Adds : Setting → (cpu : ℕ) → (before news : List Record) → List (Option LineAnswer) → Type 0
 Adds g cpu before news more = answers_at g cpu news ≡ answers_at g cpu before ++ more
 

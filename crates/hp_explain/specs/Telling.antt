@@ -31,9 +31,10 @@ unknown_told Scenario = []
 
 -- ---- the text, for scripts on a machine
 
--- either the text has the first schedule that explains the observed answers, as a search for an end
--- writes it, and the history has room for its calls. Or no schedule explains them, and there is a
--- longest explained beginning. Or it is not known whether one explains them
+-- for `Explained`, the text has the first schedule that explains the observed answers, as a search for
+-- an end writes it, and the history has room for its calls. For `Unexplained`, no schedule explains
+-- them, and there is a longest explained beginning; the text may be any. For `Unknown`, the text
+-- reports that the result is not known
 abbrev pub IsExplainedOn : ScheduleForm → (names : List (List ℕ)) → (before : List Line) → Setting
     → List (List ObservedLine) → (text : List ℕ) → ExplainResult → Type 0
 IsExplainedOn form names before g seen text Explained =
@@ -45,7 +46,8 @@ IsExplainedOn form names before g seen text Unexplained =
     × ((s : List ℕ) → IsExplained g seen s → length s ≤ length longest)
 IsExplainedOn form names before g seen text Unknown = text ≡ unknown_told form
 
--- either the text has a schedule that explains the observed answers, or there is none
+-- the text and the result report an explanation. If it is an order, the text shows this order and the
+-- result is `Explained`. If there is none, the result is `Unexplained`, and the text may be any
 abbrev pub IsExplanationTold : ScheduleForm → (names : List (List ℕ)) → (before : List Line) → Setting
     → Explanation → (text : List ℕ) → ExplainResult → Type 0
 IsExplanationTold form names before g (found.Explained schedule) text result =

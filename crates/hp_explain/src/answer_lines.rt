@@ -180,7 +180,7 @@ pub(crate) fn too_few(cpu: u32, answers: usize, lines: usize) -> AnswersFault {
 }
 
 /// Returns the fault for the first line of `rest`, which is not an answer. `index` answers of the
-/// processor come before it, and `number` is the number of the line with its first answer.
+/// processor come before it, and `number` is the number of the line after the processor's heading.
 fn no_answer(rest: &[&str], number: u64, cpu: u32, index: usize, count: usize) -> AnswersFault {
     let line = number.saturating_add(index as u64);
     let [text, ..] = rest else {
@@ -201,8 +201,8 @@ pub(crate) fn not_understood(text: &str, line: u64) -> AnswersFault {
     }
 }
 
-/// Checks what follows the answers: a line with the number of records or no such line, and then
-/// only empty lines. `number` is the number of the first line of `rest`.
+/// Checks what follows the answers: at most one line with the number of records, and then only
+/// empty lines. `number` is the number of the first line of `rest`.
 fn check_last(
     alloc: Global,
     rest: &[&str],

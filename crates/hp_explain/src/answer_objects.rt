@@ -22,7 +22,7 @@ pub(crate) struct SeenObject {
     pub line: ObservedLine,
 }
 
-/// Reads an answer from a line of a text, whose number is `line`.
+/// Reads an answer from `text`, which is line number `line` of the whole text.
 pub(crate) fn read_object(
     alloc: Global,
     text: &str,

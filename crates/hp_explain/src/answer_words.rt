@@ -113,8 +113,8 @@ fn reply_by(word: &str, args: &[&str]) -> Option<Reply> {
     }
 }
 
-/// Returns the reply in a pattern. For a pattern that matches any refusal of a kind, this is its
-/// refusal.
+/// Returns the reply in a pattern. For `AnyOf`, which matches every refusal of a kind, this is the
+/// refusal that it stores.
 fn reply_in(pattern: Pattern) -> Reply {
     match pattern {
         Pattern::Exactly(reply) => reply,
@@ -141,8 +141,8 @@ fn end_of(words: &[&str]) -> Option<OpEnd> {
     }
 }
 
-/// Returns the end of a plan that was cancelled: the words of the last refusal, or a dash, and what
-/// the Cancel did.
+/// Returns the end of a cancelled plan from its words: `why` has the words of the last refusal, or
+/// a dash, and `what` is what the Cancel did.
 fn cancelled(why: &[&str], what: &str) -> Option<OpEnd> {
     let why = cause_of(why)?;
     match what {
@@ -158,7 +158,8 @@ fn cancelled(why: &[&str], what: &str) -> Option<OpEnd> {
     }
 }
 
-/// Returns the last refusal of a cancelled plan from its words, which are a dash if there was none.
+/// Returns the last refusal of a cancelled plan from its words. Returns `Some(None)` for a dash,
+/// which means that there was none.
 fn cause_of(words: &[&str]) -> Option<Option<Refusal>> {
     match words {
         ["-"] => Some(None),
@@ -166,8 +167,8 @@ fn cause_of(words: &[&str]) -> Option<Option<Refusal>> {
     }
 }
 
-/// Returns whether `hotplug run` prints the text for a line that no call finished: its call left no
-/// record, or the line seals the history.
+/// Returns whether the text begins like what `hotplug run` prints for a line that no call finished:
+/// its call left no record, or the line seals the history.
 pub(crate) fn is_of_no_call(text: &str) -> bool {
     text.starts_with("fault ") || text.starts_with("plan: left ") || text.starts_with("sealed ")
 }

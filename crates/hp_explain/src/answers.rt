@@ -21,9 +21,10 @@ use std::str::from_utf8;
 /// Or each line is a JSON object such as `{"cpu": 0, "answer": "done", "from": 3, "to": 7}`. A
 /// processor's objects are in the order of its lines. `from` and `to` are whole numbers: the line
 /// began at `from` or later, and was answered at `to` or before. A missing `from` is 0, and a
-/// missing `to` is that of the processor's next line that has one.
+/// missing `to` is that of the processor's next line that has one. If none has, it stays unknown.
 ///
-/// A line may end in `\r\n`. Empty lines at the end are ignored, and those between objects.
+/// A line may end in `\r\n`. Empty lines at the end are ignored; in a text of objects, all empty
+/// lines are.
 ///
 /// # Errors
 ///

@@ -14,7 +14,7 @@ pub enum AnswersFault {
     NotUtf8,
     /// The line is neither an answer nor anything else that may come there.
     BadLine { line: u64 },
-    /// The line is not the heading of the processor whose answers come next.
+    /// The line is missing, or is not the heading of the processor whose answers come next.
     NoHeading { cpu: u32, line: u64 },
     /// The scenario has no such processor.
     NoProcessor { cpu: u64, line: u64 },
@@ -22,8 +22,8 @@ pub enum AnswersFault {
     TooMany { cpu: u32, line: u64 },
     /// The processor has fewer answers than lines.
     TooFew { cpu: u32, answers: u64, lines: u64 },
-    /// The line is what `hotplug run` prints for a line of a script that no call finished: its call
-    /// left no record, or it seals the history.
+    /// The answer begins like what `hotplug run` prints for a line of a script that no call
+    /// finished: its call left no record, or it seals the history.
     NotOfACall { line: u64 },
     /// By the times in this line, a line of a script was answered before it began, or before an
     /// earlier line of its processor began or was answered.

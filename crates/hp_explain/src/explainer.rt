@@ -14,7 +14,7 @@ use std::alloc::{AllocError, Global};
 #[derive(Drop)]
 pub(crate) struct Explainer<'a> {
     seen: &'a Observed,
-    /// How many calls the history has room for.
+    /// How many calls of the scripts can be recorded. Each needs room in the history and a serial.
     room: u64,
     longest: Vec<Cpu>,
 }
@@ -33,8 +33,8 @@ impl<'a> Explainer<'a> {
         }
     }
 
-    /// Returns the longest schedule that explains what was seen as the beginning of an order.
-    /// Allocates nothing.
+    /// Returns the longest schedule so far that, as the beginning of an order, explains what was
+    /// seen. Allocates nothing.
     pub(crate) fn into_longest(self) -> Vec<Cpu>
         ensures { result ≡ self.entry.longest }
     {
@@ -64,7 +64,7 @@ impl<'a> Explainer<'a> {
         }
     }
 
-    /// Returns whether each processor has finished its lines that were answered before the time.
+    /// Returns whether each processor has finished its lines that were answered before `time`.
     fn are_all_over(&self, path: &Path<'_>, time: u64) -> bool
         ensures { IsTrue result ↔ AreAllOverBefore path.now.setting self.now.seen.now path.now.news time }
     {

@@ -19,14 +19,14 @@ use std::alloc::Global;
 pub enum Explanation {
     /// The first order that explains what was seen, as the processors in the order of their calls.
     Explained(Vec<Cpu>),
-    /// No order explains what was seen. This is the first of the longest beginnings of an order
-    /// that explain what was seen of the lines that they finish.
+    /// No order explains what was seen. This is the longest schedule that explains it as the
+    /// beginning of an order. Of several such schedules, it is the first.
     Unexplained(Vec<Cpu>),
 }
 
 /// Finds the first order of all calls that explains what was seen. In such an order, each line is
-/// answered as it was seen. It begins only after all lines have finished that, as observed, were
-/// answered before it began.
+/// answered as it was seen. If one line, as observed, was answered before another began, then it is
+/// finished before the other makes a call.
 ///
 /// Script k is that of processor k. The machine is not changed. `watch` is called for each place
 /// that the search comes to, and may end it.

@@ -19,7 +19,7 @@ pub struct ObservedLine {
 }
 
 /// What was seen of a processor's lines, in their order. No line's `to` is below that of an earlier
-/// line. A contract sees the list of the lines.
+/// line. In contracts, the value is the list of the lines.
 #[derive(Drop)]
 pub struct ObservedScript {
     lines: Vec<ObservedLine>,
@@ -58,7 +58,7 @@ impl ObservedScript {
         lines.as_slice()
     }
 
-    /// Returns the line with this number, counted from 0.
+    /// Returns the line at index `number`, if there is one.
     fn line(&self, number: usize) -> Option<&ObservedLine>
         ensures { option_map (λ l. l.now) result ≡ slice_get self.now number }
     {
@@ -89,7 +89,8 @@ fn are_rising(lines: &[ObservedLine]) -> bool
     true
 }
 
-/// What was seen of all processors, from processor 0. A contract sees the list of their lines.
+/// What was seen of all processors, from processor 0. In contracts, the value is the list of their
+/// lists of lines.
 #[derive(Drop)]
 pub struct Observed {
     scripts: Vec<ObservedScript>,
@@ -134,7 +135,7 @@ impl Observed {
         }
     }
 
-    /// Returns whether each line of the processor whose `to` is below `time` is among its first
+    /// Returns whether each of the processor's lines whose `to` is below `time` is among the first
     /// `count`.
     pub(crate) fn are_over(&self, cpu: u32, count: usize, time: u64) -> bool
         requires { cpu < length self.now }
@@ -145,7 +146,8 @@ impl Observed {
         scripts[cpu as usize].are_over(count, time)
     }
 
-    /// Returns whether this answer was seen of the processor's line, counted from 0.
+    /// Returns whether `answer` was seen of the processor's line at index `line`. Returns false for
+    /// `None`, and if there is no such line.
     pub(crate) fn has_seen(&self, cpu: Cpu, line: usize, answer: Option<LineAnswer>) -> bool
         ensures { IsTrue result ↔ HasSeen self.now cpu line answer }
     {
@@ -158,7 +160,7 @@ impl Observed {
         }
     }
 
-    /// Returns what was seen of the processor's line, counted from 0.
+    /// Returns what was seen of the processor's line at index `line`, if there is such a line.
     pub(crate) fn line(&self, cpu: u32, line: usize) -> Option<&ObservedLine>
         ensures { option_map (λ l. l.now) result
             ≡ option_and_then (λ lines. slice_get lines line) (slice_get self.now cpu) }

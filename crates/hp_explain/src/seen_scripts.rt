@@ -13,7 +13,7 @@ use std::alloc::{AllocError, Global};
 use std::marker::Model;
 use std::mem::replace;
 
-/// What was seen of a processor so far. A contract sees its lines.
+/// What was seen of a processor so far. In contracts, its value is the list of its lines.
 #[derive(Drop)]
 struct SeenScript {
     lines: Vec<ObservedLine>,
@@ -44,7 +44,8 @@ pub(crate) fn read_objects(
     read_all(alloc, seen.as_mut_slice(), lines, scripts)
 }
 
-/// Reads the answers of all processors into `seen`, which has none so far.
+/// Reads and returns the answers of all processors. They are collected in `seen`, which has none so
+/// far.
 fn read_all(
     alloc: Global,
     seen: &mut [SeenScript],
@@ -67,7 +68,7 @@ fn read_all(
     scripts_of(alloc, seen, scripts)
 }
 
-/// Returns what is seen of each processor before its first answer: no line.
+/// Returns an empty `SeenScript` for each processor.
 fn unseen(alloc: Global, processors: usize) -> Result<Vec<SeenScript>, AllocError>
     ensures { IfOk result (λ seen. AreUnseen processors seen.items) }
 {

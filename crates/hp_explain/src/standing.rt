@@ -14,12 +14,12 @@ use hp_schedules::{CallScript, LineAnswer};
 use hp_units::Cpu;
 use std::alloc::{AllocError, Global};
 
-/// The first line of a processor that is not finished.
+/// A processor's first unfinished line.
 #[derive(Clone, Copy, Drop)]
 pub(crate) struct Unfinished {
     /// The processor.
     pub cpu: Cpu,
-    /// The line's number in its script, from 0.
+    /// The line's index in the processor's script.
     pub line: usize,
 }
 
@@ -139,7 +139,8 @@ fn line_count(seen: &Observed, cpu: u32) -> usize
     }
 }
 
-/// Returns the answer that was seen of a processor's line, counted from 0.
+/// Returns the answer that was seen of the processor's line at index `line`, if there is such a
+/// line.
 fn answer_seen(seen: &Observed, cpu: u32, line: usize) -> Option<LineAnswer>
     ensures { result ≡ option_map (λ one. one.answer) (slice_get (seen_of seen.now cpu) line) }
 {

@@ -35,8 +35,8 @@ pub enum ExplainResult {
 /// The result of a search for an order that explains answers, with its text.
 #[derive(Drop)]
 pub struct ExplainText {
-    /// The order that was found. If there is none, or if that is not known, the text reports it,
-    /// except that it is empty for `ScheduleForm::Scenario`.
+    /// The order that was found. If there is none, or if it is not known whether there is one, the
+    /// text reports this. For `ScheduleForm::Scenario` it is then empty.
     pub text: String,
     /// How the search ended.
     pub result: ExplainResult,

@@ -25,7 +25,8 @@ pub record AimValue : Type 1 where
   pub found : List ℕ → Type 0
   -- the places that the search may come to
   pub admits : List ℕ → Type 0
-  -- the calls that may be tried from an admitted place, before their replies are known
+  -- the processors whose next call the search may try at a place that it admits. This does not depend on
+  -- the reply
   pub tries : List ℕ → (cpu : ℕ) → Type 0
   -- numbers of the place after these records. With the rest of the place's key, they decide which
   -- continuations of the place are sought
@@ -41,7 +42,8 @@ NoneBefore aim place = (s : List ℕ) → aim.sought s → IsBefore s place → 
 abbrev pub NoneFrom : AimValue → (place : List ℕ) → Type 0
 NoneFrom aim place = (s : List ℕ) → aim.sought s → Extends s place → ⊥
 
--- the search may leave the place out
+-- the search may leave the place out: no sought schedule continues from it, and the search need not come
+-- to every place
 abbrev pub MayBeSkipped : AimValue → (place : List ℕ) → Type 0
 MayBeSkipped aim place = NoneFrom aim place × (aim.is_whole → ⊥)
 
@@ -71,8 +73,8 @@ AreSteered f g (suc cpus) news numbers =
     (rest : List ℕ) × (part : List ℕ) × (numbers ≡ rest ++ part)
     × IsSteered f g cpus news part × AreSteered f g cpus news rest
 
--- two places have equal keys, apart from the marks: the same calls continue from both, to states that
--- are equal but for the numbers of operations
+-- two places have equal keys, apart from the marks: the calls that continue from both, and the states to
+-- which they lead, differ only in the numbers of operations
 pub record HaveSameKey (g : Setting) (first second : List Record) : Type 0 where
   pub mergeable : AreMergeable g.scripts
   pub first_played : plays g (schedule_of first) ≡ Some first
@@ -84,8 +86,8 @@ pub record HaveSameKey (g : Setting) (first second : List Record) : Type 0 where
   pub first_steered : AreSteered first_numbers g (length g.scripts) first steering
   pub second_steered : AreSteered second_numbers g (length g.scripts) second steering
 
--- the laws of an aim, on which the search relies. Each sought schedule can be played. Places with the
--- same marks have equally many calls. From admitted places with the same key and marks, the same
+-- the laws of an aim, on which the search relies. Each sought schedule can be played. Equally many calls
+-- lead to places with the same marks. From admitted places with the same key and marks, the same
 -- continuations are sought
 pub record IsLawful (g : Setting) (aim : AimValue) : Type 0 where
   pub played : (s : List ℕ) → aim.sought s → (news : List Record) × (plays g s ≡ Some news)
@@ -104,9 +106,10 @@ pub record IsLawful (g : Setting) (aim : AimValue) : Type 0 where
 abbrev pub IsDone : Setting → AimValue → (place : List ℕ) → Type 0
 IsDone g aim place = NoneFrom aim place × (aim.is_whole → HasRoomFrom g place)
 
--- either a schedule that the search may return, with room in the history for each of its calls; no
--- sought schedule comes before it or continues it. Or None: no schedule is sought. If the search
--- has to come to every place, None also means that the history has room for each call
+-- if the result is a schedule, the search may return it, and the history has room for each of its calls.
+-- No sought schedule comes before it, or continues it by further calls. If the result is None, no
+-- schedule is sought. If the search has to come to every place, None also means that the history has
+-- room for each call
 abbrev pub IsFirstSought : Setting → AimValue → Option (List ℕ) → Type 0
 IsFirstSought g aim None = ((s : List ℕ) → aim.sought s → ⊥) × (aim.is_whole → FillsHistory g → ⊥)
 IsFirstSought g aim (Some s) =

@@ -1,5 +1,5 @@
--- The last refusals that the plans in progress met, as numbers. From two places with the same numbers,
--- the same further records give the same answers.
+-- The last refusals that the plans in progress met, as numbers. From two places with the same key and
+-- the same numbers, the same further records give the same answers.
 use Rattle.std.proofs.Common.{◌≡◌, ℕ, zero, suc, ◌<◌, ◌≤◌, List, [], ◌++◌, length, map, refl, ap, sym, subst, ◌∙◌, arith, inl, inr}
 use Rattle.std.specs.Prelude.{◌⊎◌}
 use Rattle.std.proofs.lemmas.Bool.{cases_lt}

@@ -5,7 +5,7 @@ use Rattle.std.specs.Prelude.{ℕ, ◌+◌, ◌==◌, if◌then◌else◌, List,
 abbrev pub change : (cpu next : ℕ) → ℕ
 change cpu next = if cpu == next then 0 else 1
 
--- the number of changes in the calls that follow a processor's call
+-- the number of changes of processor in a call by `cpu` and the calls that follow it
 abbrev pub changes_after : (cpu : ℕ) → List ℕ → ℕ
 changes_after cpu [] = 0
 changes_after cpu (next ∷ rest) = change cpu next + changes_after next rest

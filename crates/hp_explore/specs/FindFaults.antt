@@ -13,21 +13,21 @@ use Rattle.hp_explore.specs.declared.finding.Found.{Found}
 use Rattle.hp_explore.specs.declared.finding.Found.TheVariants.{Nearest, Absent}
 use Rattle.hp_questions.specs.declared.wanted.Wanted.{Wanted}
 
--- a search tries the schedules with fewer changes than this number first, and then all schedules
+-- a search first tries the schedules with fewer changes than this number, and then all schedules
 abbrev pub few_changes : ℕ
 few_changes = 3
 
 -- ---- a full history
 
--- a search within this budget reaches a call for which the history has no room. No schedule within the
--- budget and before that call ends as wanted
+-- a search within this budget reaches a call for which the history has no room. Each schedule that ends
+-- as wanted and comes earlier exceeds the budget; without a budget there is none
 pub record FillsPass (g : Setting) (wanted : List Wanted) (budget : Option ℕ) : Type 0 where
   pub place : List ℕ
   pub call : HasNoRoom g place
   pub few : IsWithin budget (place ++ call.cpu ∷ [])
   pub passed : IsPassed g wanted budget (place ++ call.cpu ∷ [])
 
--- the history has no room for a call, and no schedule before that call ends as wanted
+-- the history has no room for a call, and no schedule that ends as wanted comes before that call
 abbrev pub FillsFirst : Setting → List Wanted → Type 0
 FillsFirst g wanted = FillsPass g wanted None
 
@@ -41,8 +41,8 @@ pub record FillsNear (g : Setting) (wanted : List Wanted) (below : ℕ) : Type 0
   pub needs : NeedsChanges g wanted (changes (place ++ call.cpu ∷ []))
   pub passed : IsPassed g wanted (Some (changes (place ++ call.cpu ∷ []))) (place ++ call.cpu ∷ [])
 
--- a schedule ends as wanted, and none before it does. The history has no room for a call that is
--- reached with fewer changes
+-- `known` is the first schedule that ends as wanted. The history has no room for a call that is reached
+-- with fewer changes (FillsNear)
 abbrev pub FillsNearer : Setting → List Wanted → Type 0
 FillsNearer g wanted = (known : List ℕ) × ReachesFirst g wanted known × FillsNear g wanted (changes known)
 
@@ -52,7 +52,7 @@ IsPassCause g wanted budget HistoryFull = FillsPass g wanted budget
 IsPassCause g wanted budget OutOfMemory = Unit {0}
 IsPassCause g wanted budget Stopped = Unit {0}
 
--- the cause of a fault of several passes, one after another, with fewer than `below` changes
+-- the cause of a fault in a series of passes that try schedules with fewer than `below` changes
 abbrev pub IsNearCause : Setting → List Wanted → (below : ℕ) → FindFault → Type 0
 IsNearCause g wanted below HistoryFull = FillsNear g wanted below
 IsNearCause g wanted below OutOfMemory = Unit {0}
@@ -61,10 +61,10 @@ IsNearCause g wanted below Stopped = Unit {0}
 -- ---- for the whole search
 
 -- the cause of a fault of the whole search. There are three causes of `HistoryFull`, one for each step
--- of the search. Either there is no room for a call with few changes. Or there is none for a call
--- before all schedules that end as wanted. Or there is none for a call with fewer changes than the
--- first schedule that ends as wanted. In the last two cases, no schedule with few changes ends as
--- wanted
+-- of the search. Either the history has no room for a call that is reached with fewer than `few_changes`
+-- changes. Or it has none for a call, and no schedule that ends as wanted comes before that call. Or it
+-- has none for a call that is reached with fewer changes than the first schedule that ends as wanted. In
+-- the last two cases, each schedule that ends as wanted has at least `few_changes` changes
 abbrev pub IsFindCause : Setting → List Wanted → FindFault → Type 0
 IsFindCause g wanted HistoryFull =
     FillsNear g wanted few_changes
@@ -77,7 +77,7 @@ abbrev pub SparesHistory : Setting → Found → Type 0
 SparesHistory g (Nearest schedule) = Unit {0}
 SparesHistory g Absent = FillsHistory g → ⊥
 
--- the history has room for each call of the schedule that was found
+-- if a schedule was found, the history has room for each of its calls
 abbrev pub IsRecorded : Setting → Found → Type 0
 IsRecorded g (Nearest schedule) = HasRoomAlong g schedule.items
 IsRecorded g Absent = Unit {0}

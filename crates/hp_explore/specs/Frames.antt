@@ -16,8 +16,8 @@ use Rattle.hp_explore.specs.declared.walk.Turned.{Turned}
 use Rattle.hp_explore.specs.declared.walk.Turned.TheVariants.{On, Over, Full}
 use Rattle.hp_explore.specs.declared.walk.Walk.{Walk}
 
--- all schedules before the level's next processor are walked. The level records whether a processor
--- before that one had a call to make
+-- everything of the part that comes before a call of the level's next processor is walked. If `is_over`
+-- is true, no processor before that one has a call to make; if it is false, some processor has one
 pub record AreTurns (g : Setting) (part : PartValue) (news : List Record) (ends : List Ending)
     (frame : Level) : Type 0 where
   pub walked : IsPartWalkedBefore g part (schedule_of news ++ frame.next ∷ []) ends
@@ -37,7 +37,7 @@ AreBelow g part tally most news (frame ∷ frames) =
     × (is_full_after g before ≡ false) × IsFrame g part before tally frame
     × AreBelow g part tally frame.start before frames × (frame.start ≤ most)
 
--- all levels of a walk, latest first. Without any, everything is walked
+-- all levels of a walk, latest first. If there are none, everything of the part is walked
 abbrev pub AreWalked : Setting → PartValue → TallyValue → List Record → List Level → Type 0
 AreWalked g part tally news [] = IsPartWalkedThrough g part [] tally.ends
 AreWalked g part tally news (frame ∷ frames) =
@@ -84,8 +84,8 @@ abbrev pub IsSameWalk : Walk → Walk → Type 0
 IsSameWalk old new =
     (new.path.setting ≡ old.path.setting) × (new.tally.limit ≡ old.tally.limit) × (new.part ≡ old.part)
 
--- the walk begins, or has just reached a place by a call. Everything before the place is walked;
--- `frames` are the levels below, latest first
+-- the walk begins, or has just reached a place by a call. Everything of the part before the place is
+-- walked; `frames` are the levels below, latest first
 pub record IsComing (w : Walk) (frames : List Level) : Type 0 where
   pub walked : IsPartWalkedBefore w.path.setting w.part (schedule_of w.path.news) w.tally.ends
   pub on : IsOn (length w.path.setting.scripts) w.part (schedule_of w.path.news)

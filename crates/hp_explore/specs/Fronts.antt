@@ -10,15 +10,16 @@ use Rattle.hp_schedules.specs.declared.tally.Ending.{Ending}
 abbrev pub counted : List Ending → ℕ
 counted ends = sum_by (λ e. e.count) ends
 
--- the ends are the outcomes of all schedules before a further one, and count `many` schedules
+-- everything before some complete schedule is walked (IsWalkedBefore). The ends count all complete
+-- schedules before that one, `many` in number
 pub record AreFirst (g : Setting) (many : ℕ) (ends : List Ending) : Type 0 where
   pub place : List ℕ
   pub next : IsComplete g place
   pub walked : IsWalkedBefore g place ends
   pub full : counted ends ≡ many
 
--- the ends are the outcomes of the part's schedules before a further schedule of the part, and count
--- `many`
+-- everything of the part before some complete schedule of the part is walked (IsPartWalkedBefore). The
+-- ends count the part's complete schedules before that one, `many` in number
 pub record AreFirstInPart (g : Setting) (part : PartValue) (many : ℕ) (ends : List Ending) : Type 0 where
   pub place : List ℕ
   pub next : IsCompleteInPart g part place

@@ -23,8 +23,8 @@ is_end (Works op) = false
 is_end (Cancels op) = false
 is_end Ends = true
 
--- the new records so far, and their beginning up to the latest one whose change is `Ends`: it is
--- not refused, and no Read, Begin, DrainFor, Migrate or Cancel
+-- all new records so far, and those up to the latest one whose change is `Ends`. Such a record is not
+-- refused, and its event is no Read, Begin, DrainFor, Migrate or Cancel
 pub record Ended : Type 0 where
   pub all : List Record
   pub kept : List Record

@@ -31,7 +31,8 @@ IsForth p cpu true q =
     × (q ≡ record { setting = p.setting; news = p.news ++ record_of_call p.setting p.news cpu event ∷ [] })
 IsForth p cpu false q = (next_call p.setting cpu p.news ≡ None) × (q ≡ p)
 
--- either the latest call, which this processor made, was taken back, or there was no call
+-- with `Some cpu`, the latest call was taken back, and processor `cpu` had made it. With None, there was
+-- no call, and nothing changed
 abbrev pub IsBack : PathValue → Option ℕ → PathValue → Type 0
 IsBack p None q = (p.news ≡ []) × (q ≡ p)
 IsBack p (Some cpu) q =
@@ -56,8 +57,8 @@ pub record IsTurned (g : Setting) (old : StepsValue) (cpu : ℕ) (event : Event)
   pub records : new.records ≡ old.records ++ record_of_call g old.records cpu event ∷ []
   pub over : IsWayOver way old (record_of_call g old.records cpu event) new
 
--- the calls lead back to the beginning of the scripts, latest first. Each undoes its record and
--- restores its processor's cursor
+-- the turns (calls, each with how to undo it), latest first, lead back to the beginning of the scripts.
+-- Each takes the latest record back, and restores the cursor of that record's processor
 abbrev pub IsWayBack : Setting → StepsValue → List Cursor → List Turn → Type 0
 IsWayBack g here cursors [] = here.records ≡ []
 IsWayBack g here cursors (turn ∷ turns) =
@@ -83,7 +84,8 @@ IsAdvanced g old cursors turns cpu true new moved later =
 IsAdvanced g old cursors turns cpu false new moved later =
     (next_call g cpu old.records ≡ None) × (new ≡ old) × (moved ≡ cursors) × (later ≡ turns)
 
--- either the latest call, which this processor made, was taken back, or there was no call
+-- with `Some cpu`, the latest call was taken back, and processor `cpu` had made it. With None, there was
+-- no call, and the state is as before. In both cases, the result is a path (IsPath)
 abbrev pub IsTakenBack : Setting → StepsValue → Option ℕ → StepsValue → List Cursor → List Turn → Type 0
 IsTakenBack g old None new cursors turns = (old.records ≡ []) × (new ≡ old) × IsPath g new cursors turns
 IsTakenBack g old (Some cpu) new cursors turns =

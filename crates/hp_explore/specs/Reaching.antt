@@ -35,15 +35,15 @@ abbrev pub IfUnbounded : (budget : Option ℕ) → Type 0 → Type 0
 IfUnbounded None P = P
 IfUnbounded (Some budget) P = Unit {0}
 
--- each schedule that ends as wanted and comes before the place exceeds the budget. Without a budget,
--- there is no such schedule
+-- if a schedule ends as wanted and comes before the place, then it exceeds the budget. So without a
+-- budget there is none
 abbrev pub IsPassed : Setting → List Wanted → (budget : Option ℕ) → (place : List ℕ) → Type 0
 IsPassed g wanted budget place =
     (s : List ℕ) → Reaches g wanted s → IsBefore s place → Exceeds budget s
 
 -- ---- the nearest schedule
 
--- the schedule ends as wanted. None with fewer changes does, and none before it with equally many
+-- the schedule ends as wanted. No schedule with fewer changes does, and no earlier one with equally many
 abbrev pub IsNearest : Setting → List Wanted → List ℕ → Type 0
 IsNearest g wanted s =
     Reaches g wanted s × NeedsChanges g wanted (changes s) × IsPassed g wanted (Some (changes s)) s
@@ -62,16 +62,17 @@ abbrev pub IsFound : Setting → List Wanted → Found → Type 0
 IsFound g wanted (Nearest schedule) = IsNearest g wanted schedule.items
 IsFound g wanted Absent = (s : List ℕ) → Reaches g wanted s → ⊥
 
--- either the nearest schedule that ends as wanted, with fewer than `below` changes and room in the
--- history for all its calls. Or None, if every schedule that ends as wanted has at least `below`
--- changes
+-- if the result is a schedule, it is the nearest one that ends as wanted. It has fewer than `below`
+-- changes, and the history has room for each of its calls. If the result is None, each schedule that
+-- ends as wanted has at least `below` changes
 abbrev pub IsNearestBelow : Setting → List Wanted → (below : ℕ) → Option (List ℕ) → Type 0
 IsNearestBelow g wanted below None = NeedsChanges g wanted below
 IsNearestBelow g wanted below (Some s) = IsNearest g wanted s × (changes s < below) × HasRoomAlong g s
 
--- either the first schedule within the budget that ends as wanted, with room in the history for all
--- its calls. Or None, if every schedule that ends as wanted exceeds the budget. Without a budget,
--- None means that no schedule ends as wanted, and that the history has room for each call
+-- if the result is a schedule, it is the first one within the budget that ends as wanted, and the
+-- history has room for each of its calls. If the result is None, each schedule that ends as wanted
+-- exceeds the budget. Without a budget, None means that no schedule ends as wanted, and that the history
+-- has room for each call
 abbrev pub IsFirstWithin : Setting → List Wanted → (budget : Option ℕ) → Option (List ℕ) → Type 0
 IsFirstWithin g wanted budget None =
     ((s : List ℕ) → Reaches g wanted s → Exceeds budget s) × IfUnbounded budget (FillsHistory g → ⊥)

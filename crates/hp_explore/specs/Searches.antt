@@ -16,20 +16,21 @@ use Rattle.hp_explore.specs.declared.visited.Visited.{Visited}
 
 -- ---- the number of steps left
 
--- the largest number of steps that a search takes below one continuation of a place, if `calls` calls
--- may still be made, each by one of the processors
+-- a bound on the number of steps that a search takes after one call at a place, until it has taken that
+-- call back. At the place, `calls` calls may still be made, each by one of `processors` processors
 abbrev pub turns_below : (processors calls : ℕ) → ℕ
 turns_below processors zero = 0
 turns_below processors (suc calls) = processors * (turns_below processors calls + 2) + 1
 
--- the largest number of steps left at a place, from its continuation by the processor `next` on
+-- a bound on the number of steps left to a search that is at `place` and tries the processor `next`
+-- next. At the beginning of the scripts, `calls` calls may be made
 abbrev pub turns_left : (processors calls : ℕ) → (place : List ℕ) → (next : ℕ) → ℕ
 turns_left processors calls [] next = (processors - next) * (turns_below processors calls + 2) + 1
 turns_left processors calls (cpu ∷ place) next =
     (processors - (cpu + 1)) * (turns_below processors calls + 2) + 1
     + turns_left processors (calls - 1) place next
 
--- the number of calls of the scripts that the history has room for
+-- the number of records for which the history has room when the scripts begin
 abbrev pub room_of : Setting → ℕ
 room_of g = g.layout.history - length g.start
 
@@ -67,7 +68,7 @@ pub record IsSearching (aim : AimValue) (v : SearchValue) : Type 0 where
   pub visited : AreVisited v.path.setting aim v.schedule v.visited
   pub way : AreFollowed v.path.setting v.path.news v.visited
 
--- the largest number of steps left to the search
+-- a bound on the number of steps left to the search
 abbrev pub turns_of : SearchValue → ℕ
 turns_of v = turns_left (length v.path.setting.scripts) (room_of v.path.setting) v.schedule v.next
 
@@ -80,7 +81,7 @@ pub record IsBegun (g : Setting) (v : SearchValue) : Type 0 where
   pub way : AreFollowed g [] visited
 
 -- the search has just come to its place, by a call that may be tried. It has passed everything before
--- the place, and visited the places before it on the path
+-- the place. Each stored key belongs to a place that is done, or that is on the path before this place
 pub record IsArriving (aim : AimValue) (v : SearchValue) : Type 0 where
   pub schedule : v.schedule ≡ schedule_of v.path.news
   pub on_way : AreAdmitted aim v.schedule
@@ -98,16 +99,16 @@ pub record IsCloser (aim : AimValue) (v w : SearchValue) : Type 0 where
   pub same : w.path.setting ≡ v.path.setting
   pub fewer : turns_of w < turns_of v
 
--- the result of one step: either the search went on, or it found the first sought schedule, or it ended
--- without one
+-- the result of one step: either the search went on, or it found the schedule to return, or it ended
+-- without one (IsFirstSought)
 abbrev pub IsTurned : AimValue → SearchValue → SearchValue → Turn → Type 0
 IsTurned aim v w On = IsCloser aim v w
 IsTurned aim v w New = IsCloser aim v w
 IsTurned aim v w Found = IsFirstSought v.path.setting aim (Some w.schedule)
 IsTurned aim v w Over = IsFirstSought v.path.setting aim None
 
--- the search has gone on from the place that it came to. It has at most as many steps left as from the
--- place's first continuation on
+-- the search has gone on from the place that it came to. It has at most as many steps left as a search
+-- that tries processor 0 next at that place
 pub record IsNear (aim : AimValue) (v w : SearchValue) : Type 0 where
   pub searching : IsSearching aim w
   pub same : w.path.setting ≡ v.path.setting
@@ -123,7 +124,7 @@ HasArrived aim v w Over = IsFirstSought v.path.setting aim None
 
 -- ---- taking calls back
 
--- the latest call was taken back, and the next call to try is by the processor after its own
+-- the latest call was taken back, and the processor after the one that made it is tried next
 pub record IsTakenBack (v w : SearchValue) : Type 0 where
   pub path : PathValue
   pub cpu : ℕ

@@ -50,7 +50,7 @@ AreFollowed g news v =
 
 -- ---- one place
 
--- a key of the place is among the keys
+-- places are kept, and a key of the place is among the keys
 pub record IsKnown (g : Setting) (aim : AimValue) (news : List Record) (v : Visited) : Type 0 where
   pub on : v.is_on ≡ true
   pub key : List ℕ
@@ -58,7 +58,7 @@ pub record IsKnown (g : Setting) (aim : AimValue) (news : List Record) (v : Visi
   pub here : slice_get v.keys at ≡ Some key
   pub key_is : IsPlaceKey g aim v.stops news key
 
--- either no key is added, or the place's key is
+-- either the keys stay as they are, or the place's key is added
 abbrev pub IsKept : Setting → AimValue → List Record → Visited → Visited → Type 0
 IsKept g aim news old new =
     (new.keys ≡ old.keys)

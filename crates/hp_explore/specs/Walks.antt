@@ -27,7 +27,8 @@ abbrev pub LeadsTo : Setting → List ℕ → Option StepsValue → Type 0
 LeadsTo g schedule None = plays g schedule ≡ None
 LeadsTo g schedule (Some p) = IsAt g p × (schedule_of p.records ≡ schedule)
 
--- the machine is in the state that the schedule of its new records leads to
+-- the machine has the setting's layout, base and records, and then its new records. These are the
+-- records that their own schedule leads to
 pub record IsReached (g : Setting) (m : MachineValue) : Type 0 where
   pub layout : m.layout ≡ g.layout
   pub base : m.base ≡ g.base
@@ -35,7 +36,7 @@ pub record IsReached (g : Setting) (m : MachineValue) : Type 0 where
   pub history : m.history ≡ g.start ++ news_in g m
   pub played : plays g (place_of g m) ≡ Some (news_in g m)
 
--- the machine `n` is one call of the processor further than `m`
+-- `n` is the machine `m` after the next call of processor `cpu`, for which the history had room
 pub record IsFurther (g : Setting) (m : MachineValue) (cpu : ℕ) (n : MachineValue) : Type 0 where
   pub event : Event
   pub asked : next_call g cpu (news_in g m) ≡ Some event
@@ -59,8 +60,8 @@ IsNextSerial start news serial =
     (serial ≡ start.before + length (start.history ++ news) + 1)
     × (length (start.history ++ news) < start.layout.history)
 
--- the event undoes the steps after a serial that no step has yet, and its processor is one of the
--- layout's
+-- the event undoes the steps above a serial that is at least `serial`, the serial of the next record.
+-- Its processor is one of the layout's
 abbrev pub IsGone : (start : MachineValue) → (cpu serial : ℕ) → Event → Type 0
 IsGone start cpu serial event =
     (kept : ℕ) × (event ≡ UndoAfter kept) × (serial ≤ kept) × (cpu < start.layout.cpus)

@@ -155,7 +155,8 @@ ends_at g schedule news cpu played within =
     ∙ ends_are_answers g schedule news cpu (slice_index_or g.scripts cpu []) played
     (slice_get-get_or g.scripts cpu [] within)
 
--- records that are equal but for the operations that their events work on have the same replies
+-- if two lists of records differ only in the numbers of the operations that their events work on, they
+-- have the same replies to each processor
 replies_alike : (cpu : ℕ) (more others : List Record)
     → map anonymous_record more ≡ map anonymous_record others → replies_to cpu more ≡ replies_to cpu others
 replies_alike cpu [] [] same = refl
@@ -232,7 +233,8 @@ plans_if false g h k more others rest xs ys is causes same are a b first second 
 
 -- ---- ends as wanted
 
--- a continuation that ends as wanted from one place also does so from the other
+-- if two places have the same key, marks and last refusals, a continuation that ends as wanted from one
+-- also does so from the other
 reaches_alike : (g : Setting) (wanted : List Wanted) (h k : List Record) (met rest xs ys : List ℕ)
     → HaveSameKey g h k → AreMarks g.layout.cpus g.scripts wanted (length g.scripts) h met
     → AreMarks g.layout.cpus g.scripts wanted (length g.scripts) k met → xs ≡ ys

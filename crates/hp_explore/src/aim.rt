@@ -63,8 +63,8 @@ pub trait Aim {
             × (numbers.new.items ≡ numbers.old.items ++ marks)
             × (shows self.now path.now.setting).marks path.now.news marks) };
 
-    /// Returns whether the search is to return this schedule. If not, the schedule is not sought.
-    /// May make the aim narrower; the search then goes on by the new aim.
+    /// Returns true if the search is to return this schedule, and false only if the aim does not
+    /// seek it. May make the aim narrower first; the search then goes on by the new aim.
     fn is_met(
         &mut self,
         alloc: Global,
@@ -92,7 +92,7 @@ pub trait Aim {
     ghost narrower: { (aim : Self) (g : Setting) (new : Self) → becomes aim g new
         → IsNarrower (shows aim g) (shows new g) };
 
-    /// Sought schedules can be played. Places with the same marks have equally many calls. From
-    /// places with the same key, the same continuations are sought.
+    /// Sought schedules can be played. Equally many calls lead to places with the same marks. From
+    /// admitted places with the same key, the same continuations are sought.
     ghost lawful: { (aim : Self) (g : Setting) → IsLawful g (shows aim g) };
 }

@@ -5,8 +5,8 @@ ghost use Rattle.hp_explore.specs.Reaching.{Exceeds, IsWithin};
 
 use hp_units::Cpu;
 
-/// Returns how often the schedule changes the processor: the number of calls by another processor
-/// than the call before.
+/// Returns the number of changes of processor in the schedule. Each call by another processor than
+/// the call before it counts as one.
 pub fn changes_of(schedule: &[Cpu]) -> usize
     ensures { result ≡ changes schedule.now }
 {
@@ -17,8 +17,8 @@ pub fn changes_of(schedule: &[Cpu]) -> usize
     count
 }
 
-/// Returns whether the schedule with one more call has more changes than the budget, if there is
-/// one.
+/// Returns whether the schedule, with one more call by `next`, has more changes than `budget`.
+/// Returns false if there is no budget.
 pub(crate) fn exceeds(budget: Option<u64>, schedule: &[Cpu], next: Cpu) -> bool
     ensures more { IsTrue result → Exceeds budget (schedule.now ++ next ∷ []) }
     ensures within { result ≡ false → IsWithin budget (schedule.now ++ next ∷ []) }

@@ -22,19 +22,19 @@ const FEW: u64 = 3;
 /// What a search found.
 #[derive(Drop)]
 pub enum Found {
-    /// The first schedule that ends as wanted with the fewest changes of processor, as the
+    /// Of the schedules that end as wanted, the first one with the fewest changes of processor: its
     /// processors in the order of their calls.
     Nearest(Vec<Cpu>),
     /// No schedule ends as wanted.
     Absent,
 }
 
-/// Finds a complete schedule whose end has all wanted lines, with the fewest changes of processor.
-/// Script k is that of processor k.
+/// Finds a complete schedule whose end meets all wanted lines, with the fewest changes of
+/// processor. Script k is that of processor k.
 ///
 /// Of several such schedules, returns the first in the order of `explore`. The machine is not
-/// changed. `watch` is called for each place, after the first, from which the search goes on, and
-/// may end the search.
+/// changed. `watch` may end the search. It is called at each place from which the search goes on,
+/// except at the beginning of the scripts.
 ///
 /// The search has three steps. It tries the schedules with fewer than three changes, by rising
 /// number of changes. If none of these ends as wanted, it tries all, up to the first that does.
@@ -46,8 +46,8 @@ pub enum Found {
 ///
 /// `HistoryFull` if the search reaches a call for which the layout's history has no room. In the
 /// first and the third step, no schedule that ends as wanted has fewer changes than the schedule up
-/// to that call, and none before the call has equally many. In the second step, no schedule before
-/// the call ends as wanted.
+/// to that call, and none before the call has equally many. In the second step, no schedule that
+/// ends as wanted comes before the call.
 ///
 /// `Stopped` if the watch ended the search, `OutOfMemory` if memory allocation fails.
 pub fn find<W: Watch>(
@@ -87,7 +87,7 @@ pub fn find<W: Watch>(
 }
 
 /// Returns the first schedule with the fewest changes among those that end as wanted. `known` is
-/// the first of these, and none of them has fewer than `FEW` changes.
+/// the first of all that end as wanted, and none of these has fewer than `FEW` changes.
 #[tactic(auto, using(crate::proofs::Levels::known_nearest))]
 fn nearest_to<W: Watch>(
     alloc: Global,

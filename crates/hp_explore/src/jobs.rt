@@ -47,7 +47,7 @@ impl Watch for PartWatch {
 /// Each thread searches one part with an equal share of the memory that `watch` allows, and the
 /// ends of all parts are merged. `watch` is then called once, with the total. One thread searches
 /// all schedules anew if a part fails, stops at the limit or takes more than its share, or if the
-/// merged ends exceed the limit.
+/// merge fails or counts more than the limit.
 ///
 /// A part may take nearly as long as the whole search if many places in different parts are
 /// equivalent, because each part explores them for itself.

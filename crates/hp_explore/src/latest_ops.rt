@@ -11,12 +11,13 @@ use hp_units::{Record, Serial};
 use std::alloc::{AllocError, Global};
 use std::marker::Model;
 
-/// The operation by which each processor's operations are numbered, at the place where a search is
-/// and at each place before it.
+/// One operation per processor, by which a search renumbers operations: at the place where the
+/// search is, and at each place before it.
 ///
 /// It is the operation that the processor had begun last when the latest call with `Change::Ends`
-/// was made, or 0. No Cancel can take back that call or an earlier one, if no script has an
-/// `UndoAfter`. So all states that a Cancel can lead back to are numbered like the current one.
+/// was made, or 0. If no script has an `UndoAfter`, no Cancel can take back that call or an earlier
+/// one. So operations have the same numbers in the current state and in all states that a Cancel
+/// can lead back to.
 pub(crate) struct LatestOps {
     here: Vec<Serial>,
     before: Vec<Vec<Serial>>,
@@ -30,8 +31,7 @@ impl Drop for LatestOps {
 }
 
 impl LatestOps {
-    /// Creates the operations of the place before any call. `positions` are those of the processors
-    /// there.
+    /// Starts at the place before any call. `positions` are those of the processors there.
     pub(crate) fn start(
         alloc: Global,
         positions: &Positions,
@@ -48,7 +48,7 @@ impl LatestOps {
         })
     }
 
-    /// Returns the operations by which the current place is numbered, from processor 0 on.
+    /// Returns, from processor 0 on, the operations by which a search renumbers at this place.
     pub(crate) fn here(&self) -> &[Serial]
         ensures { result.now ≡ self.now.here.items }
     {

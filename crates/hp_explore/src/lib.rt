@@ -4,8 +4,9 @@
 //! hp_schedules defines scripts, schedules and ends; hp_states decides which places are equivalent
 //! and stores their counts. This crate owns:
 //! - the walk over all schedules (`exploring`),
-//! - the search for the first schedule that an aim seeks (`searching`, `aim`), which tries a place
-//!   once (`visited`), with numbers of operations that do not tell when they began (`latest_ops`),
+//! - the search for the first schedule that an aim seeks (`searching`, `aim`). It skips a place
+//!   that is equivalent to a visited one (`visited`). For this it renumbers operations, so that it
+//!   does not matter when they began (`latest_ops`),
 //! - the merging of parts (`summing`, `jobs`).
 //!
 //! `finding` searches by rising number of changes of processor, as in CHESS (Musuvathi and Qadeer,

@@ -24,8 +24,8 @@ use std::marker::Model;
 
 /// A walk along one schedule, call by call, that can go back call by call.
 ///
-/// It starts at the machine as it is, and never changes it. A contract sees the setting, which is
-/// the machine and the scripts, and the records made since.
+/// It starts at the machine as it is, and never changes it. In contracts, its value is the setting,
+/// made of the machine and the scripts, and the records made since.
 pub struct Path<'a> {
     machine: &'a Machine,
     scripts: &'a [CallScript],
@@ -110,7 +110,8 @@ impl<'a> Path<'a> {
         self.machine.layout().cpus()
     }
 
-    /// Called for its contract: the new records are those of the schedule of their processors.
+    /// Called for its contract: the schedule that the new records follow leads to exactly these
+    /// records.
     pub fn is_played(&self)
         ensures { plays self.now.setting (schedule_of self.now.news) ≡ Some self.now.news }
     {
@@ -142,8 +143,8 @@ impl<'a> Path<'a> {
         self.positions.finished(self.scripts, cpu)
     }
 
-    /// Returns the line that the latest call finished, with its answer, or `None` if that call
-    /// finished no line.
+    /// Returns the line that the latest call finished, with its answer. Returns `None` if that call
+    /// finished no line, or if there is no call yet.
     pub fn answered(&self) -> Option<FinishedLine>
         ensures { (before : List NewRecord) (r : NewRecord) → self.now.news ≡ before ++ r ∷ []
             → IsAnswered (answers_at self.now.setting r.cpu before) result

@@ -44,8 +44,8 @@ pub fn play(
     Ok(Some(played))
 }
 
-/// Makes the processor's next call on the machine and returns true. Returns false, and changes
-/// nothing, if it has no script or its script is finished.
+/// Makes the processor's next call on `played` and returns true. Returns false, and changes
+/// nothing, if the processor has no script or its script is finished.
 fn make_call(
     alloc: Global,
     start: &Machine,

@@ -18,8 +18,8 @@ pub(crate) fn fit_in(lists: &[Vec<Ending>], room: u64) -> bool
     true
 }
 
-/// Returns how much room is left after the schedules of these ends, or `None` if
-/// there is not enough.
+/// Returns how much of `room` is left after the schedules that these ends count, or `None` if they
+/// count more than `room`.
 pub(crate) fn left_after(ends: &[Ending], room: u64) -> Option<u64>
     ensures some { IfSome result (λ left. sum_by (λ e. e.count) ends.now + left ≡ room) }
     ensures none { IfNone result (room < sum_by (λ e. e.count) ends.now) }

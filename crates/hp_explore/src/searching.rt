@@ -61,8 +61,8 @@ impl<'a> Model for Search<'a> {
 ///
 /// The search skips a place that is equivalent to a visited one, unless a script undoes steps by
 /// their serials, or works on the operation of its n-th Begin (`OwnWork::Nth`). Adds to `places`
-/// the number of places, after the first, from which the search goes on. `watch` is called for each
-/// of these, and may end the search.
+/// the number of places from which the search goes on, not counting the beginning of the scripts.
+/// `watch` is called at each of these places, and may end the search.
 ///
 /// # Errors
 ///

@@ -14,7 +14,7 @@ use std::alloc::{AllocError, Global};
 use std::cmp::Ordering;
 use std::marker::Model;
 
-/// Merged ends, no two with the same outcome. A contract sees them as a list.
+/// Merged ends, no two with the same outcome. In contracts, their value is the list of these ends.
 ///
 /// `total` is the number of schedules that they count. `latest` maps a hash to the index of the
 /// newest end that has it.

@@ -170,8 +170,8 @@ fn steps_after(
     Ok(Some(steps))
 }
 
-/// Returns whether the event is an undo above a serial that is not used yet, by a
-/// processor of the layout.
+/// Returns whether a processor of the layout asks for an undo above a serial that is not used yet.
+/// `serial` is the next one.
 fn is_gone(start: &Machine, cpu: u32, serial: Serial, event: &Event) -> bool
     ensures { IsTrue result → IsGone start.now cpu serial event.now }
 {

@@ -24,9 +24,9 @@ use std::alloc::{AllocError, Global};
 /// The keys of the places that a search has visited, and the numbers of the place where it is.
 ///
 /// Two places with the same key continue alike: with the same calls, and the aim seeks the same
-/// continuations. So a place is tried once. In keys, an operation in `latest` that is above `fixed`
-/// has a number that depends only on its processor, since it does not matter when it began. `key`
-/// is the key written last. With `is_on` false no place is ever kept.
+/// continuations. So only one of them is tried. In keys, an operation in `latest` that is above
+/// `fixed` has a number that depends only on its processor, since it does not matter when it began.
+/// `key` is the key written last. If `is_on` is false, no place is ever kept.
 pub(crate) struct Visited {
     is_on: bool,
     fixed: Serial,
@@ -51,7 +51,7 @@ impl Drop for Visited {
 }
 
 impl Visited {
-    /// Creates the table for a search on the machine that is at the beginning of the path.
+    /// Creates the table for a search that is at the beginning of `path`, before any call.
     pub(crate) fn start(
         alloc: Global,
         machine: &Machine,

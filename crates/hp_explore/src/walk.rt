@@ -302,8 +302,8 @@ impl<'a> Walk<'a> {
     }
 }
 
-/// Creates a memo, the table of counts of walked places, that is empty and at the beginning of the
-/// scripts.
+/// Creates an empty memo for a walk at the beginning of the scripts. A memo is the table of the
+/// counts of walked places.
 fn memo_at(alloc: Global, machine: &Machine, scripts: &[CallScript]) -> Result<Memo, AllocError>
     ensures memo { IfOk result
         (λ memo. (ends : List Ending) → IsMemo (setting machine.now scripts.now) ends memo) }

@@ -1,5 +1,5 @@
-//! The aim of one pass of the search for a nearest schedule: an end as wanted, within a budget of
-//! changes.
+//! The aim of one pass in the search for a nearest schedule: an end as wanted, within a budget of
+//! changes if there is one.
 ghost use Rattle.std.specs.Prelude.{◌≡◌, ◌<◌, ◌^◌, ◌++◌, ℕ, IfErr, IfOk, List, OnOk, length, option_map, true};
 ghost use Rattle.hp_questions.specs.Marks.{AreMarks, asks_no_plans};
 ghost use Rattle.hp_explore.specs.FindFaults.{IsPassCause};
@@ -96,8 +96,9 @@ impl<'a> Aim for Within<'a> {
 }
 
 /// Returns the first schedule, in the order of the search, that ends as wanted with at most
-/// `budget` changes of processor; or with any number of changes, if there is no budget. Adds to
-/// `places` the number of places, after the first, from which the search goes on.
+/// `budget` changes of processor; or with any number of changes, if there is no budget. Returns
+/// `None` if there is no such schedule. Adds to `places` the number of places from which the search
+/// goes on, not counting the beginning of the scripts.
 ///
 /// # Errors
 ///
@@ -171,8 +172,9 @@ fn push_plan_causes(
     push_all_causes(path, processors, numbers)
 }
 
-/// Appends the latest processor and the changes so far, if there is a budget of changes. Returns
-/// whether each number fits 32 bits and there is a latest processor.
+/// If there is a budget, appends the latest processor and the number of changes so far; returns
+/// false if there is no latest processor, or if that number does not fit 32 bits. Without a budget,
+/// appends nothing and returns true.
 fn push_spent(
     budget: Option<u64>,
     schedule: &[Cpu],

@@ -14,7 +14,8 @@ use Rattle.hp_history.specs.declared.entries.Entry.{Entry}
 
 -- ---- their steps
 
--- the mark (what a step is to an operation) that an entry has as `kind` and `op`
+-- the mark (what a step is to an operation) that an entry stores as `kind` and `op`. Any
+-- `kind` above 1 is work
 abbrev pub mark_coded : (kind op : ℕ) → Mark
 mark_coded zero op = Other
 mark_coded (suc zero) op = Opens
@@ -24,7 +25,7 @@ mark_coded (suc (suc n)) op = Works op
 abbrev pub tag_in : (before : ℕ) → Entry → Tag
 tag_in before e = record { serial = before + e.code / 4 + 1; mark = mark_coded (e.code % 4) e.op }
 
--- the tags, in the order of the steps
+-- the tags of the entries' steps, in order
 abbrev pub tags_of : (before : ℕ) → List Entry → List Tag
 tags_of before entries = map (tag_in before) entries
 
@@ -35,15 +36,15 @@ AreNumbered before entries = (j : ℕ) (e : Entry) → slice_get entries j ≡ S
 
 -- ---- where their deltas start
 
--- where the deltas of a step start on a tape of `deltas` deltas; at its end, if there is no such
--- step
+-- where the deltas of step `step` start on a tape of `deltas` deltas: at the end of the tape, if
+-- there is no such step
 abbrev pub start_of : List Entry → (deltas step : ℕ) → ℕ
 start_of entries deltas step = option_map_or (λ e. e.start) (slice_get entries step) deltas
 
 -- ---- what they show
 
--- the deltas of step `at`: no more than its bound; latest first they lead from the state after the
--- step back to the state before it, each fitting when its turn comes
+-- the deltas are those of step `at`, and no more than its bound. Latest first, they lead from the state
+-- after the step back to the state before it, and each fits when its turn comes
 pub record IsEntry (c : CourseValue) (at : ℕ) (deltas : List Delta) : Type 0 where
   pub made : Record
   pub here : slice_get (net_of c.history) at ≡ Some made
@@ -51,20 +52,20 @@ pub record IsEntry (c : CourseValue) (at : ℕ) (deltas : List Delta) : Type 0 w
   pub leads : LeadsBack c.layout deltas (run c.layout c.base (take (at + 1) (net_of c.history)))
       (run c.layout c.base (take at (net_of c.history)))
 
--- the deltas lead from the present state back to the state before step `at`, or to itself if all
--- steps come before
+-- the deltas lead from the present state back to the state before step `at`; if there is no such step,
+-- to the state after all steps
 abbrev pub IsWayBack : CourseValue → (at : ℕ) → List Delta → Type 0
 IsWayBack c at deltas = LeadsBack c.layout deltas c.state (run c.layout c.base (take at (net_of c.history)))
 
 -- ---- what going back undoes
 
--- the deltas of several steps, one step's after another's
+-- the deltas of several steps, joined in the order of the steps
 abbrev pub joined : List (List Delta) → List Delta
 joined [] = []
 joined (deltas ∷ steps) = deltas ++ joined steps
 
--- the latest steps are undone, and the first `keep` are left. The deltas of the undone steps lead
--- from the old state back to the new one, latest first, each fitting when its turn comes
+-- the latest steps are undone, and the first `keep` are left. Latest first, the deltas of the undone
+-- steps lead from the old state back to the new one, and each fits when its turn comes
 pub record IsUndone (old new : CourseValue) : Type 0 where
   pub keep : ℕ
   pub entries : List (List Delta)

@@ -26,9 +26,10 @@ pictured l s = record { layout = l; memory = s }
 abbrev pub remembered : LayoutParts → Memory → MemoryValue
 remembered l s = record { layout = l; state = s }
 
--- one entry per step of the net (the steps that are not undone), in order, with the step's tag. The
--- deltas on the tape from the start of a step's own on lead back from the net's state to the state
--- before the step. A step has at most as many deltas as its bound
+-- there is one entry per step of the net (the steps that are not undone), in order, with the step's
+-- tag. No step's deltas start before those of an earlier step, and a step has at most as many deltas as
+-- its bound. From the start of a step's deltas to the end of the tape, the deltas lead from the net's
+-- state back to the state before that step
 pub record IsJournal (l : LayoutParts) (base : Memory) (before : ℕ) (net : List Record)
     (entries : List Entry) (deltas : List Delta) : Type 0 where
   pub tagged : tags_of before entries ≡ map tag_of net
@@ -48,7 +49,8 @@ pub record IsCourse (m : CourseValue) (entries : List Entry) (deltas : List Delt
   pub journal : IsJournal m.layout m.base m.before (net_of m.history) entries deltas
   pub fits : m.before + length m.history < 2 ^ 64
 
--- an undo to the serial is refused: it is above the last one, or below the last one that was sealed
+-- an undo to the serial by a processor of the layout is refused as `Gone`: the serial is above the last
+-- one, or below the last one that was sealed
 abbrev pub is_gone : CourseValue → ℕ → Bool
 is_gone m serial = nat_lt (last_serial m) serial || nat_lt serial m.before
 

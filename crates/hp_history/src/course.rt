@@ -98,9 +98,9 @@ impl Course {
 
     /// Replies to a processor's event and records it. Returns the record's serial and the reply.
     ///
-    /// An undo drops steps, and so does a Cancel if only its operation's own work follows its
-    /// Begin. Any other event is carried out, and leaves a step unless it is a Read or is refused.
-    /// On an error, nothing changes.
+    /// An undo that is not refused drops steps. So does a Cancel that is not refused, if only its
+    /// operation's own work follows its Begin. Any other event leaves a step, unless it is a Read
+    /// or is refused. On an error, nothing changes.
     #[inline(always)]
     pub fn answer(
         &mut self,
@@ -215,8 +215,9 @@ impl Course {
         self.journal.journal_len()
     }
 
-    /// Returns the deltas of step `at`, counting from 0 the steps not undone; `None` past the last.
-    /// Latest first, they lead back from the state after the step to the state before it.
+    /// Returns the deltas of step `at`, counted from 0 among the steps that are not undone;
+    /// `None` past the last. Latest first, they lead back from the state after the step to
+    /// the state before it.
     pub fn entry(&self, at: u64) -> Option<&[Delta]>
         ensures { MatchOption result (length (net_of self.now.history) ≤ at)
             (λ deltas. IsEntry self.now at deltas.now) }
@@ -224,9 +225,10 @@ impl Course {
         self.journal.entry(at)
     }
 
-    /// Returns the deltas of the steps from `at` on, counted from 0; `None` past the end of the
-    /// journal. Latest first, they lead back from the present state to the state before step `at`:
-    /// an undo that drops these steps takes these deltas off.
+    /// Returns the deltas of step `at` and of all later steps, counted as in `entry`: none if
+    /// `at` is the number of steps, and `None` if it is greater. Latest first, they lead back
+    /// from the present state to the state before step `at`: an undo that drops these steps
+    /// takes these deltas off.
     pub fn way_back(&self, at: u64) -> Option<&[Delta]>
         ensures { MatchOption result (length (net_of self.now.history) < at)
             (λ deltas. IsWayBack self.now at deltas.now) }

@@ -26,15 +26,15 @@ pub(crate) struct Entry {
 /// The size of an entry decides the cost of a journal.
 const _: () = prove!(size_of::<Entry>() <= 16);
 
-/// An entry can hold this many places.
+/// The `place` of an entry is below this.
 const PLACES: u64 = 1_073_741_824;
 
-/// The longest tape on which an entry can hold the start of its deltas.
+/// The greatest `start` that an entry can store.
 const DELTAS: usize = 4_294_967_295;
 
 impl Entry {
-    /// Returns whether an entry can hold this place and this start. If not, a journal has no room
-    /// for the step.
+    /// Returns whether an entry can store this `place` and this `start`. If not, a journal has no
+    /// room for the step.
     #[inline(always)]
     pub(crate) fn has_room(place: u64, start: usize) -> bool
         ensures { result ≡ (nat_lt place 1073741824 && nat_le start 4294967295) }
@@ -92,7 +92,7 @@ impl Entry {
     }
 }
 
-/// Returns the tag of the step at `place` in the journal.
+/// Returns the tag of the step with index `place` in the journal.
 fn step_tag(entries: &[Entry], before: u64, place: usize) -> Tag
     requires place { place < length entries.now }
     requires numbered { AreNumbered before entries.now }
@@ -102,8 +102,8 @@ fn step_tag(entries: &[Entry], before: u64, place: usize) -> Tag
     entry.tag(before)
 }
 
-/// Returns how many steps an undo to `serial` keeps: those up to the latest whose serial is not
-/// above it.
+/// Returns how many steps an undo to `serial` keeps: those up to the latest one whose serial
+/// is at most `serial`.
 pub(crate) fn kept_len(entries: &[Entry], before: u64, serial: Serial) -> usize
     requires { AreNumbered before entries.now }
     ensures within { result ≤ length entries.now }
@@ -119,8 +119,8 @@ pub(crate) fn kept_len(entries: &[Entry], before: u64, serial: Serial) -> usize
     keep
 }
 
-/// Returns the place of the step that begins `op`, if nothing but the operation's own work comes
-/// after it.
+/// Returns the index of the step that begins `op`, if nothing but the operation's own
+/// work comes after it.
 pub(crate) fn sole_place(entries: &[Entry], before: u64, op: Serial) -> Option<usize>
     requires { AreNumbered before entries.now }
     ensures { result ≡ sole_at op (tags_of before entries.now) }
@@ -139,8 +139,8 @@ pub(crate) fn sole_place(entries: &[Entry], before: u64, op: Serial) -> Option<u
     None
 }
 
-/// Returns where the deltas of a step start on a tape of `deltas` deltas: at its end, if there is
-/// no such step.
+/// Returns where the deltas of step `step` start on a tape of `deltas` deltas: at the end of the
+/// tape, if there is no such step.
 pub(crate) fn start_of(entries: &[Entry], deltas: usize, step: usize) -> usize
     ensures { result ≡ start_of entries.now deltas step }
 {
@@ -159,8 +159,9 @@ pub(crate) fn between(deltas: &[Delta], start: usize, end: usize) -> &[Delta]
     &deltas[start..end]
 }
 
-/// Appends the entry of a step, for which there must be room. If `is_step` is false, takes the
-/// noted deltas off the tape instead; these must change nothing.
+/// Appends the entry of a step; there must be room for it. If `is_step` is false, undoes the
+/// deltas from the entry's start on instead, and takes them off the tape. They must lead back
+/// to the same state.
 #[inline(always)]
 pub(crate) fn keep_step(
     entries: &mut Vec<Entry>,

@@ -119,9 +119,10 @@ impl Journal {
 
     /// Replies to a processor's event. Returns the serial of the event's record and the reply.
     ///
-    /// An undo drops steps, and so does a Cancel if only its operation's own work follows its
-    /// Begin. Any other event is carried out, and leaves a step unless it is a Read or is refused.
-    /// Only an event that is carried out can run out of memory; then nothing changes.
+    /// An undo that is not refused drops steps. So does a Cancel that is not refused, if only its
+    /// operation's own work follows its Begin. Any other event leaves a step, unless it is a Read
+    /// or is refused. An undo, refused or not, and a Cancel that restores need no memory. On an
+    /// error, nothing changes.
     #[inline(always)]
     pub fn answer(
         &mut self,
@@ -149,8 +150,8 @@ impl Journal {
         }
     }
 
-    /// Goes on from the present state as a base without records, so that no earlier step can be
-    /// undone. Returns how many records there were. Makes no record and allocates nothing.
+    /// Makes the present state the new base, with no records after it, so that no earlier step can
+    /// be undone. Returns how many records there were. Makes no record and allocates nothing.
     pub fn seal(&mut self) -> u64
         ensures count { result ≡ length self.old.history }
         ensures goes_on { self.new ≡ started self.old.layout self.old.state (last_serial self.old) }
@@ -241,8 +242,8 @@ impl Journal {
         }
     }
 
-    /// Returns whether an undo to `serial` is refused: `serial` is above the last serial, or below
-    /// the last one that was sealed.
+    /// Returns whether an undo to `serial` by a processor of the layout is refused as `Gone`:
+    /// `serial` is above the last serial, or below the last one that was sealed.
     fn is_gone(&self, serial: Serial) -> bool
         ensures { result ≡ is_gone self.now serial }
     {
@@ -308,7 +309,7 @@ impl Journal {
         let reply = self
             .memory
             .step(alloc, serial, cpu, event, &mut self.deltas)?;
-        // Made after the step, when few values are live: only a step needs most of an entry.
+        // Made only now, when few values are live. Without a step, only its `start` is used.
         let entry = Entry::new(self.count, start, mark_of(event));
         keep_step(
             &mut self.entries,

@@ -1,4 +1,4 @@
-//! Records of a history. A contract sees them as a list.
+//! Records of a history. In contracts, their value is a list.
 ghost use Rattle.std.specs.Prelude.{◌≡◌, IfOk};
 
 use hp_units::Record;

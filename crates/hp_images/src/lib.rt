@@ -1,8 +1,8 @@
 //! Converts an Image to the layers of a memory, and the layers to an Image.
 //!
 //! A layer starts empty, and each part of the Image is then loaded by undoing a delta. So loading
-//! needs no calls of a layer besides `back` (`loads`). An Image starts empty as well, and the parts
-//! of the layers are added one by one (`pictures`).
+//! changes a layer only by its `back` (`loads`). An Image starts empty as well, and the parts of
+//! the layers are added one by one (`pictures`).
 //!
 //! Read first: specs/Tables (how far a table is copied), then one layer, such as `loads/rows`.
 #![tactic(auto)]

@@ -13,8 +13,9 @@ use hp_units::{Frame, Order};
 use std::alloc::{AllocError, Global};
 use std::marker::Model;
 
-/// The kernel blocks of a layout: the order of the block that starts at each frame, in two bytes,
-/// and the set of these frames. Only `new` and `copy` allocate.
+/// The kernel blocks of a layout: for each frame, in two bytes, the order of the block that starts
+/// there, if any; and the set of the frames at which a block starts. Only `new` and `copy`
+/// allocate.
 #[derive(Drop)]
 pub struct KernelBlocks {
     orders: Vec<Option<u8>>,

@@ -9,13 +9,14 @@ abbrev pub usual_limit : ℕ
 usual_limit = 2 ^ 64 - 1
 
 -- the line that reports how many interleavings the scripts after the setup have; empty if the bytes are
--- not a scenario
+-- not a scenario, or if a line after the setup may not be in a script
 abbrev pub IsCountIn : (setup : ℕ) → Result NamedValue ScenarioFault → (text : List ℕ) → Type 0
 IsCountIn setup (Ok s) text = IsCountTold s.scenario.layout.cpus setup s.scenario.lines usual_limit text
 IsCountIn setup (Err fault) text = text ≡ []
 
--- the line that reports how many interleavings the scripts after the setup have; empty if all lines
--- are the setup, or if the bytes are not a scenario
+-- the line that reports how many interleavings the scripts after the setup have; empty if `all`
+-- is true (all lines are the setup), if the bytes are not a scenario, or if a line after the
+-- setup may not be in a script
 abbrev pub IsCountOf : (all : Bool) → (setup : ℕ) → (input text : List ℕ) → Type 0
 IsCountOf true setup input text = text ≡ []
 IsCountOf false setup input text = IsCountIn setup (named_in input) text

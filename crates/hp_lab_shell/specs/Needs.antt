@@ -29,7 +29,7 @@ unbegun_of (Told form) read = []
 abbrev pub first_shown : View → ℕ
 first_shown view = if nat_le view.from 1 then 0 else view.from
 
--- the number of setup lines of a check; 0 if the whole scenario is the setup
+-- the last setup line that a check needs; 0 if `setup` is 2^64 - 1, which means the whole scenario
 abbrev pub setup_named : (setup : ℕ) → ℕ
 setup_named setup = if setup == 2 ^ 64 - 1 then 0 else setup
 

@@ -16,7 +16,7 @@ use std::alloc::{AllocError, Global};
 /// The most interleavings that are counted.
 const LIMIT: u64 = u64::MAX;
 
-/// The number of setup lines that means all of a scenario.
+/// As a number of setup lines: all lines of the scenario.
 pub(crate) const ALL: u64 = u64::MAX;
 
 /// Reports what is wrong with a scenario whose first `setup` lines are the setup, and how many
@@ -43,8 +43,9 @@ fn status_of(faults: usize) -> u8
     if faults == 0 { 0 } else { 1 }
 }
 
-/// Returns the line that reports how many interleavings the scripts after the setup have. The text
-/// is empty if all lines are the setup, or if the bytes are not a scenario.
+/// Returns the line that reports how many interleavings the scripts after the setup have. The
+/// text is empty if `setup` is `ALL`, if the bytes are not a scenario, or if a line after the
+/// setup may not be in a script.
 #[tactic(auto, using(crate::proofs::Counted::none_asked, crate::proofs::Counted::some_asked))]
 fn count_line(alloc: Global, input: &[u8], setup: u64) -> Result<String, AllocError>
     ensures { IfOk result (λ text. IsCountOf (setup == 2 ^ 64 - 1) setup input.now (string_bytes text)) }
@@ -56,7 +57,8 @@ fn count_line(alloc: Global, input: &[u8], setup: u64) -> Result<String, AllocEr
 }
 
 /// Returns the line that reports how many interleavings the scripts after the setup have, for a
-/// `setup` that is not `ALL`. The text is empty if the bytes are not a scenario.
+/// `setup` that is not `ALL`. The text is empty if the bytes are not a scenario, or if a line after
+/// the setup may not be in a script.
 fn count_in(alloc: Global, input: &[u8], setup: u64) -> Result<String, AllocError>
     ensures { IfOk result (λ text. IsCountIn setup (named_in input.now) (string_bytes text)) }
 {

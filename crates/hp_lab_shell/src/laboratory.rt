@@ -1,4 +1,4 @@
-//! The interface through which the program runs its commands.
+//! The interface through which the program runs `check`, `explore`, `sum` and `trace`.
 ghost use Rattle.std.specs.Prelude.{◌<◌, ◌-◌, ◌^◌};
 ghost use Rattle.std.specs.Thread.{IsSync};
 
@@ -15,12 +15,12 @@ use std::thread::Threads;
 pub struct Served {
     /// The exit status.
     pub status: u8,
-    /// Per processor, the first line of a script that works on operation 0 although the processor
-    /// has begun none.
+    /// Per processor, the first script line that works on operation 0 although the
+    /// processor has begun none.
     pub unbegun: Vec<Unbegun>,
 }
 
-/// Runs the commands of the program.
+/// Runs the commands that `Word` has.
 pub trait Laboratory {
     /// Runs a command on the text that `reader` gives, and writes the result to `writer`. Some
     /// commands run in threads. `watch` gets the progress of a search.

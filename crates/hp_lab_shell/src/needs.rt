@@ -11,8 +11,8 @@ use hp_starts::Unbegun;
 use hp_trace::View;
 use std::alloc::{AllocError, Global};
 
-/// Returns, per processor, the first line of a command's scripts that works on operation 0 although
-/// the processor has begun none.
+/// Returns, per processor, the first script line that works on operation 0 although the processor
+/// has begun none. Empty for a command that does not search the scripts of a scenario.
 pub fn unbegun_of(alloc: Global, input: &[u8], word: Word<'_>) -> Result<Vec<Unbegun>, AllocError>
     ensures { IfOk result (λ found. found.items ≡ unbegun_of word.entry (named_in input.now)) }
 {
@@ -44,7 +44,7 @@ pub fn look_for_line(alloc: Global, input: &[u8], word: Word<'_>) -> Result<(), 
     look_among(asked, count)
 }
 
-/// Checks that line `asked` is one of `count`, if it is known how many there are.
+/// Checks that line `asked` is one of `count` lines. Passes if their number is not known.
 fn look_among(asked: u64, count: Option<u64>) -> Result<(), LabProgramFault>
     ensures ok { OnOk result (has_line asked count ≡ true) }
     ensures err { IfErr result (IsPast asked count) }
@@ -77,7 +77,7 @@ fn last_named(word: Word<'_>) -> u64
     }
 }
 
-/// Returns the last setup line that a check needs; 0 if the whole scenario is the setup.
+/// Returns the last setup line that a check needs; 0 if `setup` is `ALL`.
 fn setup_named(setup: u64) -> u64
     ensures { result ≡ setup_named setup }
 {

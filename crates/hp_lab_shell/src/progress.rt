@@ -88,7 +88,7 @@ impl<W: Write + Drop, C: Clock + Drop> Progress<W, C> {
         }
     }
 
-    /// Reads the clock. If it cannot be read, no time has passed since the last look.
+    /// Reads the clock. If it cannot be read, `passed` stays as it was.
     fn look_at_clock(&mut self)
         ensures { self.new ≡ record self.old { passed = self.new.passed } }
     {
@@ -122,7 +122,7 @@ impl<W: Write + Drop, C: Clock + Drop> Progress<W, C> {
         }
     }
 
-    /// Reports how many states were reached, if a report is due.
+    /// Reports how many states were reached, if states are shown and a report is due.
     fn report_states(&mut self)
         ensures budgets { self.new.budgets ≡ self.old.budgets }
         ensures reached { self.new.reached ≡ self.old.reached }

@@ -145,8 +145,8 @@ fn told_status(
     }
 }
 
-/// Returns the lines that the command line requires of an end. If a text is not a line that an end
-/// can have, reports that on standard error and returns `None`.
+/// Returns the lines that the command line requires of an end. If a text cannot be read as such a
+/// line, reports that on standard error and returns `None`.
 fn wanted_from(
     rt: &HostRuntime,
     matches: &ArgMatches<'_>,
@@ -164,7 +164,7 @@ fn wanted_from(
     Ok(Some(wanted))
 }
 
-/// Parses a text as the line of an end and adds it. Returns whether it is one.
+/// Parses a text as a wanted line and adds the line. Returns whether the text can be read as one.
 fn push_line(alloc: Global, wanted: &mut Vec<Wanted>, text: &str) -> Result<bool, AllocError> {
     match wanted_line(alloc, text) {
         Ok(Some(line)) => {

@@ -13,12 +13,12 @@ use hp_schedules::ShardId;
 use hp_search::{EndsForm, GroupBy, ScheduleForm};
 use hp_trace::View;
 
-/// The default width of a cell in pixels, and the greatest.
+/// The default width of a cell, in pixels. The greatest follows.
 const CELL: u64 = 8;
 
 const WIDEST_CELL: u64 = 32;
 
-/// The default scale of a picture in per cent, the least and the greatest.
+/// The default scale of a picture, in per cent. The least and the greatest follow.
 const SCALE: u64 = 100;
 
 const LEAST_SCALE: u64 = 25;
@@ -31,7 +31,7 @@ const MEMORY_MIB: u64 = 2048;
 /// The default width of a trace's rows in columns.
 pub(crate) const WIDTH: u64 = 200;
 
-/// Printed if there is no such subcommand. clap reports that before this program can.
+/// Printed if the command line names no subcommand of the program. But clap reports that first.
 const NO_WORD: &str = "there is no such word";
 
 /// Printed if `--scenario` is not 1 although a search finds a single interleaving.
@@ -90,15 +90,15 @@ pub enum Word<'a> {
     },
     /// Add up all parts, whose texts come in place of a scenario.
     Sum(EndsForm),
-    /// Find an interleaving whose end has each of the lines in `wanted`. The first `setup` lines of
-    /// the scenario run in order before it.
+    /// Find an interleaving whose end meets each of the lines in `wanted`. The first `setup` lines
+    /// of the scenario run in order before it.
     Find {
         setup: u64,
         wanted: &'a [Wanted],
         form: ScheduleForm,
     },
-    /// Expect that no interleaving has an end with each of the lines in `wanted`. The first `setup`
-    /// lines of the scenario run in order before it.
+    /// Expect that no interleaving has an end that meets each of the lines in `wanted`. The first
+    /// `setup` lines of the scenario run in order before it.
     Never {
         setup: u64,
         wanted: &'a [Wanted],
@@ -205,7 +205,7 @@ fn is_search(name: &str, words: &ArgMatches<'_>) -> bool {
     name == "explore" && (words.get_strs(FIND).is_some() || words.get_strs(NEVER).is_some())
 }
 
-/// Returns how far a search may go. `--limit` bounds the states only of a search for an end.
+/// Returns how far a search may go. Only in a search for an end, `--limit` bounds the states.
 fn budgets_from(name: &str, words: &ArgMatches<'_>) -> Budgets {
     if name != "explore" {
         return Budgets {

@@ -65,8 +65,8 @@ step_log l before after = with_move before after (changes l before after)
 
 -- ---- whole histories
 
--- the log of a history over a base state, record by record. An UndoAfter, and a Cancel that
--- restores, is a step like any other: back to an earlier state
+-- the log of a history over a base state, record by record. An UndoAfter, or a Cancel that restores, is
+-- logged like any other change of the state: as the change back to an earlier state
 abbrev pub log_of : LayoutParts → Memory → List Record → List LogEvent
 log_of l base h =
     flat_map (λ n. step_log l (value_of l base (take n h)) (value_of l base (take (n + 1) h)))

@@ -1,4 +1,5 @@
--- The types and variants of other crates' enums, exported again from one place. Declares nothing.
+-- Exports again, from one place, types and variants of hp_judge and hp_units. Some variants are renamed,
+-- such as `Normal` to `NormalZone` or `NormalWish`. Declares nothing.
 pub use Rattle.hp_judge.specs.declared.events.LogEvent.{LogEvent}
 pub use Rattle.hp_judge.specs.declared.events.LogEvent.TheVariants.{Alloc, Free, OnlineBegins, OnlineEnds, OfflineBegins, OfflineEnds, Move}
 pub use Rattle.hp_judge.specs.declared.events.MachineSize.{MachineSize}

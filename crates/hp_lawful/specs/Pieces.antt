@@ -17,7 +17,8 @@ kernel_piece order = record { order = order; movable = false }
 abbrev pub page_piece : Piece
 page_piece = record { order = 0; movable = true }
 
--- the piece from the kernel's block that starts at a frame, or the page that the frame holds
+-- the piece that starts at a frame: the kernel's block that starts there, or otherwise the page that the
+-- frame holds
 abbrev pub piece_by : Option Order → Bool → Option Piece
 piece_by (Some order) holds_page = Some (kernel_piece order)
 piece_by None true = Some page_piece

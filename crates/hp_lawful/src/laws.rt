@@ -23,8 +23,8 @@ pub fn machines_write_lawful_logs()
         → IsSizeOf l m → IsLawful m (log_of_all l (boot_memory l) hs) }
 {}
 
-/// The log shows which frames are in use, and the phase of each memory block: its events lead from
-/// those of the base state to those of the state after the history.
+/// The log shows which frames are in use, and the phase of each memory block. If these are known
+/// for the base state, the events of the log lead to those of the state after the history.
 pub fn logs_show_their_state()
     ensures history { (l : LayoutParts) (m : MachineSize) (base : Memory) (h : List Record) → IsLayout l
         → IsSizeOf l m → IsWellPlaced l base
@@ -34,7 +34,8 @@ pub fn logs_show_their_state()
         → after_log m (shown l base) (log_of_all l base hs) ≡ shown l (value_of_all l base hs) }
 {}
 
-/// A log shows a frame as in use if and only if a page or a block of the kernel has it.
+/// In a well placed state, a frame that is `in_use` is either under one page or in one block of the
+/// kernel. Any other frame is in neither.
 pub fn shown_frames_are_in_place()
     ensures { (l : LayoutParts) (s : Memory) (frame : ℕ) → IsLayout l → IsWellPlaced l s
         → mapped_places s.pages frame + kernel_places s frame ≡ if in_use l s frame then 1 else 0 }
@@ -49,8 +50,8 @@ pub fn logs_grow_by_steps()
         ≡ log_of l base h ++ step_log l (value_of l base h) (value_of l base (h ++ r ∷ [])) }
 {}
 
-/// Each layout has a size as the judge needs it: the number of frames of its memory blocks is a
-/// power of two.
+/// Each layout has a size as the judge needs it: the number of frames per memory block is a power
+/// of two.
 pub fn layouts_have_sizes()
     ensures { (l : LayoutParts) → IsLayout l → (m : MachineSize) × IsSizeOf l m }
 {}

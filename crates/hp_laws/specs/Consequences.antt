@@ -26,8 +26,8 @@ pub record IsGoingFor (l : LayoutParts) (s : Memory) (op frame : ℕ) : Type 0 w
   pub claimed : is_claimed_by op (row_of s.blocks (block_of l frame)) ≡ true
   pub going : is_going (row_of s.blocks (block_of l frame)) ≡ true
 
--- the frame is in use, that is in no free block, and in a block that the operation is taking
--- offline
+-- the frame is in a block that the operation is taking offline, and it is in use: it is in no free
+-- block
 pub record IsFrameInUse (l : LayoutParts) (s : Memory) (op frame : ℕ) : Type 0 where
   pub going : IsGoingFor l s op frame
   pub not_free : IsInFreeBlock s.free.areas frame → ⊥
@@ -37,7 +37,7 @@ pub record IsLowestInUse (l : LayoutParts) (s : Memory) (op frame : ℕ) : Type 
   pub here : IsFrameInUse l s op frame
   pub lowest : (other : ℕ) → IsFrameInUse l s op other → frame ≤ other
 
--- the frame is in a block that is online or going, and so has a zone
+-- the frame is in a memory block that has a zone, and that is online or going
 pub record IsPluggedIn (l : LayoutParts) (s : Memory) (frame : ℕ) : Type 0 where
   pub zone : (zone : Zone) × ((row_of s.blocks (block_of l frame)).zone ≡ Some zone)
   pub state : (is_online (row_of s.blocks (block_of l frame))

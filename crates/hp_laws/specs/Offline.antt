@@ -17,8 +17,8 @@ abbrev pub drains_for : (op cpu : ℕ) → Event → Bool
 drains_for op cpu (DrainFor other drained) = (other == op) && (drained == cpu)
 drains_for op cpu event = false
 
--- from the operation's Begin on, the steps are its own drains and migrations, with a drain of each
--- processor among them; and in the state that they lead to, no frame of the blocks that it takes
+-- the operation's Begin is in the net, and all later steps are its own drains and migrations, with
+-- a drain of each processor among them. In the state `s`, no frame of the blocks that it takes
 -- offline holds a page
 pub record IsUndisturbed (l : LayoutParts) (s : Memory) (op : ℕ) (net : List Record) : Type 0 where
   pub earlier : List Record

@@ -32,8 +32,8 @@ pub fn cached_frames_lie_in_zone()
         → (row_of (value_of l base h).blocks (block_of l frame)).zone ≡ Some (zone_of_pool pool) }
 {}
 
-/// A frame in use is in a block that is online or going offline, and so has a zone. A frame of a
-/// kernel block is in zone Normal; a frame that holds a page is in either zone.
+/// A frame that is in a kernel block or holds a page is in a memory block that is online or going
+/// offline, and so has a zone. For a frame of a kernel block, this is zone Normal.
 pub fn frames_in_use_have_zone()
     ensures kernel { (l : LayoutParts) (s : Memory) (first order frame : ℕ) → IsWellPlaced l s
         → kernel_order s first ≡ Some order → IsFrameOf frame order first

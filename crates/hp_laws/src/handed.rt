@@ -1,4 +1,5 @@
-//! The law of the frames that are handed out, as the contract of a function with an empty body.
+//! The law of the frames that are handed out in a legal history from a well placed base state, as
+//! the contract of a function with an empty body.
 ghost use Rattle.std.specs.Prelude.{◌≡◌, ℕ, false, List, [], ◌∷◌, ◌++◌, Some};
 ghost use Rattle.hp_units.specs.Arithmetic.{block_of};
 ghost use Rattle.hp_units.specs.Contents.{handed_frame};

@@ -8,8 +8,8 @@ ghost use Rattle.hp_units.specs.declared.plans.Item.{Item};
 ghost use Rattle.hp_units.specs.declared.replies.Record.{Record};
 ghost use Rattle.hp_units.specs.declared.replies.Reply.TheVariants.{Restored};
 
-/// An undo to `serial` that is not refused leaves the state after the steps up to `serial` that
-/// were not undone before.
+/// If an undo to `serial` is not refused, it leaves the state to which the steps up to `serial`
+/// lead, without those that were undone before.
 pub fn undone_state()
     ensures { (l : LayoutParts) (base : Memory) (serial : ℕ) (h : List Record) (r : Record)
         → r.event ≡ UndoAfter serial

@@ -1,7 +1,8 @@
-//! Laws of the definitions, over all histories: what an undo and a restoring Cancel leave, and how
-//! each earlier state is reached. Each frame stays in one place, with what follows from that. Other
-//! laws say what the pages hold, which frames are handed out, how operations proceed, also across
-//! seals, and that an undisturbed offline commits.
+//! Laws of the definitions, over all histories. Some are about what an undo and a restoring Cancel
+//! leave, and how each earlier state is reached. Others are about placement: each frame stays in
+//! exactly one place, and much follows from that. The rest are about what the pages hold, which
+//! frames are handed out, how operations proceed (also across seals), and when an offline is sure
+//! to commit.
 //!
 //! Read `placement` and `laws` first.
 #![tactic(auto)]

@@ -12,13 +12,14 @@ ghost use Rattle.hp_units.specs.declared.replies.Record.{Record};
 ghost use Rattle.hp_units.specs.declared.replies.Reply.TheVariants.{Done};
 ghost use Rattle.hp_laws.specs.Offline.{AreClaimedUpTo, IsUndisturbed};
 
-/// A Commit by a processor of the layout is done if three things hold: from its operation's Begin
-/// on, all steps are the operation's own drains and migrations; each processor was drained among
-/// them; and no frame of the blocks that it takes offline holds a page.
+/// A Commit by a processor of the layout is done if three things hold: all steps after its
+/// operation's Begin are the operation's own drains and migrations; among them is a drain of each
+/// processor; and no frame of the blocks that it takes offline holds a page.
 ///
-/// This holds after the state at boot, and after any base state in which the operation's number is
-/// not in use. So it holds after any base in which the operations that hold blocks have numbers up
-/// to that of the last record before it (Linux, memory hotplug: offlining).
+/// This holds for legal histories from boot, and from any well placed base state in which no block
+/// is held by an operation of this number. So it holds for any well placed base in which each
+/// operation that holds a block has a number up to the serial of the last record before the base
+/// (Linux, memory hotplug: offlining).
 pub fn undisturbed_offline_commits()
     ensures boot { (l : LayoutParts) (op : ℕ) (h : List Record) (r : Record) → IsLayout l
         → IsLegal l (boot_memory l) 0 (h ++ r ∷ []) → r.event ≡ Commit op → r.cpu < l.cpus
@@ -35,9 +36,10 @@ pub fn undisturbed_offline_commits()
         → r.reply ≡ Done }
 {}
 
-/// Each operation that holds a block after a legal history has a number up to that of the history's
-/// last record. This needs that operations in the base state have numbers up to that of the last
-/// record before it. So no greater number is in use, and none is at boot.
+/// If each operation that holds a block in the base state has a number up to the serial of the last
+/// record before the base, then after a legal history each has a number up to the serial of its
+/// last record. So no operation with a greater number is live. At boot, no operation with a number
+/// above 0 is live.
 pub fn operations_are_numbered()
     ensures boot { (l : LayoutParts) → AreClaimedUpTo 0 (boot_memory l).blocks }
     ensures history { (l : LayoutParts) (base : Memory) (before : ℕ) (h : List Record)

@@ -1,5 +1,5 @@
-//! The laws of operations on memory blocks. Each law is the contract of a function with an empty
-//! body.
+//! The laws of operations on memory blocks, in legal histories from a well placed base state. Each
+//! law is the contract of a function with an empty body.
 ghost use Rattle.std.specs.Prelude.{◌≡◌, ℕ, false, List, [], ◌∷◌, ◌++◌};
 ghost use Rattle.hp_laws.specs.Operations.{BeginsAt, IsOpenBehind, RowsAre, state_before, state_behind, wished_row};
 ghost use Rattle.hp_units.specs.History.{IsLegal, is_refused, net_of, value_of};

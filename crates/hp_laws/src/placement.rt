@@ -57,7 +57,7 @@ pub fn free_frames_are_not_in_use()
 {}
 
 /// A migration moves the page at the old frame of its reply to the new one, and leaves each other
-/// page where it is. It changes no word of any page, so the words follow the table (Linux, memory
+/// page where it is. It changes no word of any page, so a page's words move with it (Linux, memory
 /// hotplug: migration).
 pub fn migrations_move_no_word()
     ensures words { (l : LayoutParts) (s : Memory) (serial cpu op : ℕ)

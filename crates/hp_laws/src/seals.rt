@@ -1,5 +1,6 @@
-//! The laws of operations over histories that follow one another: an operation may begin in one of
-//! them and end in a later one. Each law is the contract of a function with an empty body.
+//! The laws of operations over legal histories that follow one another, from a well placed base
+//! state: an operation may begin in one of them and end in a later one. Each law is the contract of
+//! a function with an empty body.
 ghost use Rattle.std.specs.Prelude.{◌≡◌, ℕ, false, List, [], ◌∷◌, ◌++◌};
 ghost use Rattle.hp_laws.specs.Operations.{BeginsAt, IsOpenBehind, RowsAre, wished_row};
 ghost use Rattle.hp_laws.specs.Seals.{AreLegal, net_of_all, state_just_after, state_just_before, value_of_all};

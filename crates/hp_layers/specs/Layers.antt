@@ -39,7 +39,7 @@ pub record AreOfOneLayout (m : Layers) : Type 0 where
   pub kernel : length m.kernel ≡ frame_count m.layout
   pub blocks : m.blocks.layout ≡ m.layout
 
--- the layers have the frame view of a well placed state
+-- all layers are of one layout, and have the frame view of a well placed state
 pub record ArePlaced (m : Layers) : Type 0 where
   pub one : AreOfOneLayout m
   pub placed : IsWellPlaced m.layout (state_of m)

@@ -8,7 +8,8 @@ use Rattle.hp_layers.specs.declared.layers.Layers.{Layers}
 use Rattle.hp_layers.specs.Frames.{IsTidy}
 use Rattle.hp_layers.specs.Layers.{AreOfOneLayout, NotesView, state_of, view_of}
 
--- the free frames and the rows are those of the state `s`, and nothing else changed
+-- the free frames and the rows are those of the state `s`, nothing else changed, and at most `most`
+-- deltas were noted
 pub record IsReworked (m : Layers) (s : Memory) (most : ℕ) (new : Layers) (was now : TapeValue) : Type 0 where
   pub one : AreOfOneLayout new
   pub layout : new.layout ≡ m.layout

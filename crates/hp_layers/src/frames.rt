@@ -382,7 +382,8 @@ impl Frames {
     }
 }
 
-/// Returns the most deltas that a batch of single frames and one more frame may note.
+/// Returns the most deltas of moving a batch of frames between the free areas and a processor's
+/// list, and one more frame.
 fn batch_room(layout: &Layout) -> usize
     ensures is { result ≡ batch_bound layout.now }
     ensures small { result ≤ 2 ^ 20 }

@@ -1,4 +1,4 @@
--- What contracts see of a `Links`: lists by number, each a sequence of frames.
+-- The value of a `Links` in contracts: lists by number, each a sequence of frames.
 use Rattle.std.specs.Prelude.{ℕ, ◌≡◌, ◌<◌, cond, ◌==◌, List, [], ◌∷◌, map, Option, None, Some, length, slice_index_or, slice_set}
 use Rattle.std.specs.List.{Contains}
 
@@ -39,16 +39,17 @@ last_from before (x ∷ xs) = last_from (Some x) xs
 abbrev pub last : List ℕ → Option ℕ
 last xs = last_from None xs
 
--- the list without this frame
+-- the list without this frame's first entry
 abbrev pub without : ℕ → List ℕ → List ℕ
 without frame [] = []
 without frame (x ∷ xs) = cond (x == frame) xs (x ∷ without frame xs)
 
--- every list without this frame
+-- the lists, each `without` this frame
 abbrev pub off_lists : ℕ → LinkedLists → LinkedLists
 off_lists frame links = record links { lists = map (without frame) links.lists }
 
--- the frame before this one, or `before` if this one is the first
+-- the frame before this one, or `before` if this one is the first; None if this one is not on the
+-- list
 abbrev pub predecessor_from : Option ℕ → ℕ → List ℕ → Option ℕ
 predecessor_from before frame [] = None
 predecessor_from before frame (x ∷ xs) = cond (x == frame) before (predecessor_from (Some x) frame xs)
@@ -62,7 +63,7 @@ abbrev pub successor : ℕ → List ℕ → Option ℕ
 successor frame [] = None
 successor frame (x ∷ xs) = cond (x == frame) (first xs) (successor frame xs)
 
--- the list with one more frame, after `after` or at the front
+-- the list with one more frame, after `after` or at the front; unchanged if `after` is not on it
 abbrev pub with_behind : Option ℕ → ℕ → List ℕ → List ℕ
 with_behind None frame xs = frame ∷ xs
 with_behind (Some after) frame [] = []

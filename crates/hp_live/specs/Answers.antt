@@ -51,7 +51,7 @@ told d calls = record { text = did_text d; calls = calls; did = d }
 -- ---- the parts of an answer
 
 -- either the event left a record, and `d` has its serial and its reply; or it left none, the
--- machine is the same, and `d` has the reason
+-- machine is the same, and `d` has a fault
 abbrev pub IsEventTold : MachineValue → (cpu : ℕ) → Event → Did → (new : MachineValue) → Type 0
 IsEventTold m cpu event d new =
     ((serial : ℕ) × (reply : Reply) × (d ≡ did.Event serial reply)

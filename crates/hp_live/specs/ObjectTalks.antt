@@ -1,5 +1,5 @@
--- A session that replies in JSON objects. In contracts it is a session, and the states that it
--- shows.
+-- A session that replies in JSON objects. In contracts, its value is a session and the states that
+-- its objects show.
 use Rattle.hp_live.specs.Talks.{ObjectsValue}
 use Rattle.hp_live.specs.declared.object_talk.ObjectTalk.{ObjectTalk}
 

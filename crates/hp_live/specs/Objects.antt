@@ -31,7 +31,7 @@ serial_keys serial = key (codes "serial") ∷ number (decimal serial) ∷ []
 abbrev pub reply_keys : Reply → List Token
 reply_keys reply = pair (codes "answer") (reply_text reply)
 
--- the keys for a text that is not a line
+-- the keys for a text that cannot be read as a line
 abbrev pub fault_keys : (hint : List ℕ) → List Token
 fault_keys hint = pair (codes "fault") (codes "no line") ++ pair (codes "hint") hint
 
@@ -50,8 +50,8 @@ TellsCalls (r ∷ rs) ts =
     × TellsCalls rs rest
 
 -- the keys for a line's effect: the serial and the reply of an event, the calls and the end of a
--- plan, or the number of records of a seal. A text that is not a line has a fault and a hint, and a
--- file has no keys. Any other effect has an answer in words
+-- plan, or the number of records of a seal. A text that cannot be read as a line has a fault and a
+-- hint, and a file has no keys. Any other effect has an answer in words
 abbrev pub TellsDid : Did → List Receipt → List Token → Type 0
 TellsDid did.NoLine calls ts = (hint : List ℕ) × (ts ≡ fault_keys hint)
 TellsDid (did.Event serial reply) calls ts = ts ≡ serial_keys serial ++ reply_keys reply

@@ -29,7 +29,8 @@ pub record Typed : Type 0 where
 abbrev pub typed_of : PlainLine → Option Numbered → Option Typed
 typed_of plain n = option_map (λ n. record { numbered = n; naming = plain.naming }) n
 
--- the line in a text without names for results, after these owners' names, with the name of its result
+-- the line in a text whose names for results were replaced by numbers, with the name of its own result;
+-- None if the text cannot be read as a line. `names` are the owners so far
 abbrev pub typed_by : (names : List (List ℕ)) → PlainLine → Option Typed
 typed_by names plain = typed_of plain (line_in names plain.text)
 
@@ -51,7 +52,7 @@ abbrev pub number_of : asks.Meaning → Option (ℕ × Reply) → ℕ
 number_of (asks.event e) left = event_result e left
 number_of m left = 0
 
--- the serial and the reply of the record that a line's event left, if it left one, by what the line did
+-- the serial and the reply in a line's effect; None unless the line's event left a record
 abbrev pub left_by : Did → Option (ℕ × Reply)
 left_by (did.Event serial reply) = Some (serial, reply)
 left_by d = None
@@ -60,7 +61,7 @@ left_by d = None
 abbrev pub number_asked : asks.Meaning → Did → ℕ
 number_asked m d = number_of m (left_by d)
 
--- the serial and the reply of the record that a machine has after `before` others, if it has one
+-- the serial and the reply of the record at index `before` of a machine's history, if there is one
 abbrev pub left_in : MachineValue → (before : ℕ) → Option (ℕ × Reply)
 left_in m before = option_map (λ r. (r.serial, r.reply)) (slice_get m.history before)
 
@@ -69,18 +70,18 @@ left_in m before = option_map (λ r. (r.serial, r.reply)) (slice_get m.history b
 abbrev pub number_left : asks.Meaning → (before after : MachineValue) → ℕ
 number_left m before after = number_of m (left_in after (length before.history))
 
--- the serial and the reply of the record that a line's event leaves when `serial` calls it on this
--- machine, if it leaves one
+-- the serial and the reply of the record that a line's event leaves if `hotplug serial` calls it on
+-- this machine; None if it leaves none
 abbrev pub left_next : MachineValue → (cpu : ℕ) → asks.Meaning → Option (ℕ × Reply)
 left_next m cpu (asks.event e) =
     if is_full m then None else Some ((next_record m cpu e).serial, (next_record m cpu e).reply)
 left_next m cpu meaning = None
 
--- the number of the result of what a line asks for, when `serial` does it on this machine
+-- the number of the result of what a line asks for, if `hotplug serial` does it on this machine
 abbrev pub asked_number : MachineValue → (cpu : ℕ) → asks.Meaning → ℕ
 asked_number m cpu meaning = number_of meaning (left_next m cpu meaning)
 
--- the number of the result of a line that `serial` runs on this machine
+-- the number of the result of a line, if `hotplug serial` runs it on this machine
 abbrev pub line_number : MachineValue → Line → ℕ
 line_number m line = asked_number m line.cpu (asks.asked_by line.work)
 

@@ -77,8 +77,8 @@ pub record RowsRun (s : RowsSession) (t : Typed) (reply : List ℕ) (new : RowsS
   pub is : reply ≡ new.trace.rows.text
   pub bound : new.bound ≡ bound_after s.bound t.naming (length s.lines) (number_run s t new)
 
--- either the text is not a line, and nothing changes, or the line is run and kept, and its rows are the
--- reply
+-- either the text cannot be read as a line, and nothing was run, or the line was run and kept, and its
+-- rows are the reply
 abbrev pub RowsRead : Option Typed → RowsSession → (reply : List ℕ) → (new : RowsSession) → Type 0
 RowsRead None s reply new = Stays s new
 RowsRead (Some t) s reply new = RowsRun s t reply new
@@ -93,7 +93,7 @@ RowsWord word.Scenario s text reply new =
     (reply ≡ scenario_text s.trace.machine.layout s.names s.lines []) × Stays s new
 RowsWord word.Line s text reply new = RowsRead (typed_in s.names s.bound text) s reply new
 
--- either the line is not UTF-8 or too long, and nothing changes, or it gets the reply to its text
+-- either the line is not UTF-8 or too long, and nothing was run, or it gets the reply to its text
 abbrev pub RowsText : RowsSession → (line reply : List ℕ) → (new : RowsSession) → Type 0
 RowsText s line reply new = (IsUnread line × Stays s new) ⊎ RowsWord (word_of line) s line reply new
 

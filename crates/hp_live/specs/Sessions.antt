@@ -60,8 +60,8 @@ pub record IsResumed (s : NamedValue) (new : SessionValue) : Type 0 where
 
 -- ---- one text
 
--- the answer to a text, given the line in it. None is a text that is not a line: it gets an empty
--- answer, and changes nothing
+-- the answer to a text, given the line in it; None if it cannot be read as a line. Such a text gets an
+-- empty answer, and changes nothing
 abbrev pub AnswersRead : SessionValue → Option Typed → AnswerValue → (new : SessionValue) → Type 0
 AnswersRead s None a new = (a ≡ untold) × (new ≡ s)
 AnswersRead s (Some t) a new =
@@ -72,7 +72,7 @@ AnswersRead s (Some t) a new =
 abbrev pub AnswersText : SessionValue → (text : List ℕ) → AnswerValue → (new : SessionValue) → Type 0
 AnswersText s text a new = AnswersRead s (typed_in s.names s.bound text) a new
 
--- the session after memory ran out. It is the session before if the line could not be kept. If the
+-- the session after memory ran out. If the line could not be kept, the session is as before. If the
 -- answer could not be made, the text is a line, which was run and is kept
 abbrev pub IsLostTyped : Lack → SessionValue → Option Typed → (new : SessionValue) → Type 0
 IsLostTyped lack.Line s typed new = new ≡ s

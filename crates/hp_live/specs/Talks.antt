@@ -45,11 +45,11 @@ line_of tokens = print tokens ++ 10 ∷ []
 abbrev pub word_object : (name text : List ℕ) → List ℕ
 word_object name text = line_of (begin_object ∷ key name ∷ string text ∷ end_object ∷ [])
 
--- the tokens of the object for a text that is not a line
+-- the tokens of the object for a text that cannot be read as a line
 abbrev pub fault_tokens : (line : ℕ) → (hint : List ℕ) → List Token
 fault_tokens line hint = object_of line [] (fault_keys hint)
 
--- the object for a text that is not a line
+-- the object for a text that cannot be read as a line
 abbrev pub fault_object : (line : ℕ) → (hint : List ℕ) → List ℕ
 fault_object line hint = line_of (fault_tokens line hint)
 
@@ -57,8 +57,8 @@ fault_object line hint = line_of (fault_tokens line hint)
 abbrev pub lost_object : List ℕ
 lost_object = codes "{\"fault\":\"OutOfMemory\",\"hint\":\"out of memory: see state\"}\n"
 
--- the number of the line that was answered. For a text that is not a line, it is the number of the next
--- line
+-- the number of the line that was answered. For a text that cannot be read as a line, it is the number
+-- of the next line
 abbrev pub number_of : Did → (lines : List Line) → ℕ
 number_of did.NoLine lines = length lines + 1
 number_of (did.Event serial reply) lines = length lines
@@ -72,7 +72,8 @@ number_of (did.Sealed count) lines = length lines
 abbrev pub object_end : List ℕ
 object_end = codes "}\n"
 
--- the reply is the object that begins with `front`, with the further keys `keys`
+-- the reply is an object and a newline. The object begins with `front` and goes on with a comma and
+-- `keys`, which are further keys and its last bracket
 abbrev pub HasKeys : (front keys reply : List ℕ) → Type 0
 HasKeys front keys reply = reply ≡ front ++ (codes "," ++ (keys ++ codes "\n"))
 
@@ -94,7 +95,8 @@ pub record StatesValue : Type 0 where
 abbrev pub picture : MachineValue → Pictured
 picture m = record { layout = m.layout; memory = m.state }
 
--- the state that an object shows, given the last state that was shown and the state now
+-- if states are shown, `shown` is the state now, and the reply reports how it differs from `last`. If
+-- not, `shown` is None, and the reply has no further keys
 abbrev pub ShowsIf : (is_shown : Bool) → (last : Option Pictured) → (now : Pictured)
     → (shown : Option Pictured) → (front reply : List ℕ) → Type 0
 ShowsIf false last now shown front reply = (shown ≡ None) × (reply ≡ front ++ object_end)
@@ -177,15 +179,16 @@ IsObjectOf number a reply =
     (front : List ℕ) × WritesObject [] number a (front ++ object_end)
     × ((reply ≡ front ++ object_end) ⊎ ((keys : List ℕ) × HasKeys front keys reply))
 
--- a reply, and the text of `hotplug serial` in it. This is the answer's text, or empty if no line
--- was run. If the reply only reports that memory ran out, it may be any text
+-- a reply, and the part of the output of `hotplug serial` that it stands for: either the text of the
+-- answer that the reply shows, or nothing. If the reply only reports that memory ran out, this part may
+-- be any text
 abbrev pub HasText : List ℕ × List ℕ → Type 0
 HasText pair =
     ((number : ℕ) × (a : AnswerValue) × (pair.1 ≡ a.text) × IsObjectOf number a pair.0)
     ⊎ ((pair.1 ≡ []) ⊎ (pair.0 ≡ lost_object))
 
--- the replies of a talk after a scenario have texts in them. Joined after the text `before`, these make
--- the text that `hotplug serial` writes for the lines so far
+-- each reply of a talk after a scenario stands for a part of the output of `hotplug serial`. Joined
+-- after the text `before`, these parts make the text that it writes for the lines so far
 pub record TellsLines (s : ScenarioValue) (before text : List ℕ) (new : SessionValue) : Type 0 where
   pub told : List (List ℕ × List ℕ)
   pub replies : text ≡ flat_map (λ pair. pair.0) told

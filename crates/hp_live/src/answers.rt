@@ -12,7 +12,7 @@ use std::marker::Model;
 /// What a line did.
 #[derive(Clone, Copy, Drop)]
 pub enum Did {
-    /// Nothing: the text is not a line.
+    /// Nothing: the text cannot be read as a line.
     NoLine,
     /// Its event left a record with this serial and this reply.
     Event { serial: Serial, reply: Reply },
@@ -70,8 +70,8 @@ impl LiveAnswer {
         }
     }
 
-    /// Returns the text that `hotplug serial` writes for the line. Empty if the text was not a
-    /// line.
+    /// Returns the text that `hotplug serial` writes for the line. Empty if there was no line,
+    /// since the text could not be read as one.
     pub fn text(&self) -> &str
         ensures { result.now ≡ self.now.text }
     {

@@ -19,11 +19,11 @@ ghost use Rattle.hp_live.specs.Talks.{ObjectsValue, RepliesObject, TellsLines};
 use hp_trace::live_rows_are_the_trace;
 
 /// What a session has written is what `hotplug serial` writes for its lines. Its lines are the
-/// texts that are lines, read like a scenario's `calls`, with plain numbers in place of names for
-/// results. With the state of the machine after them, what was written is a text of `hotplug
-/// serial` for a scenario of the layout and these lines. It is the only such text if no line ran
-/// out of memory. If the session began with a scenario, the scenario's lines and their text come
-/// first.
+/// given texts that can be read as lines. They are read like a scenario's `calls`, with plain
+/// numbers in place of names for results. With the state of the machine after them, what was
+/// written is a text of `hotplug serial` for a scenario of the layout and these lines. At most one
+/// such text has no line that ends with `OutOfMemory`. If the session began with a scenario, the
+/// scenario's lines and their text come first.
 pub fn answers_are_what_serial_writes()
     ensures lines { (l : LayoutParts) (texts : List (List ℕ)) (written : List ℕ) (s : SessionValue)
         → AnswersAll (started l) texts written s → WritesLines (booted l) s.lines written s.machine }
@@ -39,11 +39,11 @@ pub fn answers_are_what_serial_writes()
         → WritesLines (booted scenario.scenario.layout) s.lines (begun.text ++ written) s.machine }
 {}
 
-/// In a session that replies in objects of JSON, the texts in the replies, one after another, are
-/// what `hotplug serial` writes for the lines so far: those of the scenario and those of the
-/// session, with plain numbers in place of names for results. Command words, and texts that are not
-/// lines, add nothing. A lost reply shows no text: if its line was run, the text of that line is
-/// missing.
+/// In a session that replies in objects of JSON, the text for the scenario's lines and then the
+/// texts in the replies are what `hotplug serial` writes for the lines so far: those of the
+/// scenario and those of the session, with plain numbers in place of names for results. Command
+/// words, and texts that cannot be read as lines, add nothing. A lost reply shows no text: if its
+/// line was run, the text of that line is missing.
 pub fn talks_tell_their_lines()
     ensures { (scenario : NamedValue) (first s : ObjectsValue) (lines : List (List ℕ))
         (text : List ℕ) → (begun : IsResumed scenario first.session)
@@ -52,9 +52,9 @@ pub fn talks_tell_their_lines()
 {}
 
 /// In a session that replies in rows, the first row and the rows in the replies, one after another,
-/// are a trace. `hotplug_lab trace` draws it of the scenario with the session's lines after its
-/// own, all with plain numbers, from the first line of the session on. This holds if there was
-/// memory for each reply.
+/// are a trace. It is the trace of the scenario with the session's lines after its own, all with
+/// plain numbers, from the first line of the session on. `hotplug_lab trace` draws it too, but of
+/// equal rounds of a plan's calls only the first. This holds if there was memory for each reply.
 pub fn talks_draw_the_trace()
     ensures { (scenario : NamedValue) (width : ℕ) (orders : Bool) (first s : RowsSession)
         (lines : List (List ℕ)) (text : List ℕ) → (begun : RowsBegun scenario width orders first)
@@ -65,10 +65,10 @@ pub fn talks_draw_the_trace()
 }
 
 /// Running lines for the numbers of their results has the effect of `hotplug serial`. After a line,
-/// the machine is the one that `serial` has then. The number of a Begin's result is the serial that
-/// `serial` gives it, and that of a KernelAlloc's is the frame in the reply that `serial` gets.
-/// After lines in order, each with the numbers of earlier results in it, the machine is the one
-/// that `serial` has then.
+/// the machine is the one that `hotplug serial` has then. The number of the line's result is the
+/// one that follows from the record that its event leaves there (see `result_number`; if it leaves
+/// none, see `missing_number`), or 0 for a line without an event. After lines in order, each with
+/// the numbers of earlier results in it, the machine is the one that `hotplug serial` has then.
 pub fn results_have_the_numbers_of_serial()
     ensures line { (m : MachineValue) (line : Line) (next : MachineValue) (number : ℕ)
         → RunsLine m line next number → (next ≡ machine_after m line) × (number ≡ line_number m line) }

@@ -35,7 +35,7 @@ pub struct ObjectTalk {
 
 impl ObjectTalk {
     /// Begins a talk after a scenario's lines. With `is_state_shown`, each answer also reports how
-    /// the state differs from that of the answer before it.
+    /// the state differs from the last one reported; the first answer reports the whole state.
     pub fn begin(
         alloc: Global,
         named: NamedScenario,
@@ -142,7 +142,8 @@ impl ObjectTalk {
         Ok(())
     }
 
-    /// Writes what was expected of a text that is not a line.
+    /// Sets `hint` to what was expected if the text could not be read as a line, and to the empty
+    /// text otherwise.
     fn write_hint(&mut self, alloc: Global, text: &str) -> Result<(), AllocError>
         ensures session { self.new.session ≡ self.old.session }
         ensures states { self.new.states ≡ self.old.states }
@@ -173,8 +174,8 @@ impl ObjectTalk {
         )
     }
 
-    /// Returns the number of the line that was answered. After a text that is not a line, returns
-    /// the number of the next line.
+    /// Returns the number of the line that was answered. After a text that cannot be read as a
+    /// line, returns the number of the next line.
     fn number(&self) -> u64
         ensures { result ≡ number_of self.now.answer.did self.now.session.lines }
     {

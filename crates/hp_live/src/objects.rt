@@ -12,8 +12,9 @@ use std::alloc::{AllocError, Global};
 
 /// Appends an answer to `out` as one object of JSON and a newline.
 ///
-/// Its keys are `line`, the number; `text`; for an event `serial` and `answer`; for a plan `calls`
-/// and `end`; for a seal `sealed`; and for a text that is not a line `fault` and `hint`. Takes and
+/// Its keys are `line`, the number; `text`; for an event `serial` and `answer`; for an event that
+/// left no record, or an `echo` that is not taken, `answer` alone; for a plan `calls` and `end`;
+/// for a seal `sealed`; and for a text that cannot be read as a line `fault` and `hint`. Takes and
 /// returns the buffer, so that its memory can be reused.
 pub fn write_object(
     alloc: Global,
@@ -87,7 +88,7 @@ fn words_of(text: &str) -> &str {
     words.trim_end()
 }
 
-/// Writes that a text is not a line.
+/// Writes the keys that report that a text cannot be read as a line.
 pub(crate) fn write_fault_keys(writer: &mut Writer, hint: &str) -> Result<(), AllocError>
     ensures { OnOk result (Adds writer.old writer.new (fault_keys hint.now)) }
 {

@@ -44,8 +44,8 @@ fn event_result(event: &Event, left: Option<(Serial, Reply)>) -> u64
     }
 }
 
-/// Returns the serial and the reply of the record that a machine has after `before` others, if it
-/// has one.
+/// Returns the serial and the reply of the record at index `before` of a machine's history, if
+/// there is one.
 pub(crate) fn left_in(machine: &Machine, before: usize) -> Option<(Serial, Reply)>
     ensures { result ≡ spec.left_in machine.now before }
 {

@@ -103,7 +103,8 @@ impl RowTalk {
         }
     }
 
-    /// Writes the reply to a text. The reply is empty so far.
+    /// Does what the typed text asks for, and writes the reply into `self.text`, which is empty so
+    /// far.
     fn write_to_text(&mut self, alloc: Global, text: &str) -> Result<(), AllocError>
         requires { self.old.text ≡ [] }
         ensures ok { OnOk result (RowsWord (word_of text.now) self.old text.now self.new.text self.new) }
@@ -143,8 +144,8 @@ impl RowTalk {
         )
     }
 
-    /// Runs a text if it is a line, and writes its rows. Keeps the line, unless there is no memory
-    /// for it.
+    /// Runs a text if it can be read as a line, and writes its rows. Otherwise writes why it
+    /// cannot. Keeps the line, unless there is no memory for it.
     fn write_to_line(&mut self, alloc: Global, text: &str) -> Result<(), AllocError>
         requires { self.old.text ≡ [] }
         ensures ok { OnOk result
@@ -155,9 +156,9 @@ impl RowTalk {
         self.write_to_plain(alloc, text, plain)
     }
 
-    /// Runs a text if it is a line, after names for results were replaced by numbers, and writes
-    /// its rows. Keeps the line, unless there is no memory for it. `text` is the original, for the
-    /// report that it is not a line.
+    /// Runs `plain`, in which names for results were replaced by numbers, if it can be read as a
+    /// line, and writes its rows. Otherwise writes why it cannot; for this, `text` is the original.
+    /// Keeps the line, unless there is no memory for it.
     fn write_to_plain(
         &mut self,
         alloc: Global,
@@ -232,7 +233,7 @@ fn write_rows(out: &mut String, trace: &LiveTrace, are_drawn: bool) -> Result<()
     out.push_str(trace.text())
 }
 
-/// Writes what was expected of a text that is not a line. `bound` has the names of earlier results.
+/// Writes why a text cannot be read as a line. `bound` has the names of earlier results.
 fn write_no_line(
     out: &mut String,
     alloc: Global,

@@ -105,10 +105,11 @@ impl Session {
     }
 
     /// Reads a line, runs it, and makes its answer in `out`: the text is that of `hotplug serial`.
-    /// The session keeps the line, with plain numbers. A text that is not a line changes nothing.
+    /// The session keeps the line, with plain numbers. A text that cannot be read as a line changes
+    /// nothing.
     ///
     /// Memory to keep the line is reserved before it is run. After an error, `out` has no meaning,
-    /// and no result may have the name that the line gives its own.
+    /// and the name that the line gives to its result may be that of no result.
     pub fn answer(&mut self, alloc: Global, text: &str, out: &mut LiveAnswer) -> Result<(), Lack>
         ensures ok { OnOk result (AnswersText self.old text.now out.new self.new) }
         ensures err { IfErr result (λ lack. IsLost lack self.old text.now self.new) }
@@ -120,7 +121,7 @@ impl Session {
     }
 
     /// Reads a line in which names for results were replaced by numbers, runs it, and makes its
-    /// answer in `out`. A text that is not a line changes nothing.
+    /// answer in `out`. A text that cannot be read as a line changes nothing.
     fn answer_plain(
         &mut self,
         alloc: Global,

@@ -25,7 +25,7 @@ pub(crate) fn write_word(
     append_line(out, writer.into_inner())
 }
 
-/// Appends an object that reports why a text is not a line, and a newline.
+/// Appends an object that reports why a text cannot be read as a line, and a newline.
 pub(crate) fn write_fault(
     out: &mut Vec<u8>,
     alloc: Global,
@@ -40,7 +40,7 @@ pub(crate) fn write_fault(
     append_line(out, writer.into_inner())
 }
 
-/// Writes the tokens of an object that reports why a text is not a line.
+/// Writes the tokens of an object that reports why a text cannot be read as a line.
 fn write_fault_tokens(writer: &mut Writer, number: u64, hint: &str) -> Result<(), AllocError>
     ensures { OnOk result (Adds writer.old writer.new (fault_tokens number hint.now)) }
 {

@@ -11,8 +11,8 @@ pub const MOST_COLUMNS: usize = 1024;
 
 /// A memory block's frames in use over a log, in columns of equal numbers of events.
 ///
-/// A column keeps the greatest count of its events. When all columns are full, neighbours are
-/// joined, so the memory does not depend on the length of the log.
+/// A column keeps the greatest count of frames in use after one of its events. When all columns are
+/// full, neighbours are joined, so the memory does not depend on the length of the log.
 #[derive(Drop)]
 pub struct Columns {
     alloc: Global,
@@ -21,7 +21,7 @@ pub struct Columns {
     events: u64,
     /// How many more events the last column takes.
     room: u64,
-    /// The count that the last event left.
+    /// The number of frames in use after the last event.
     count: u32,
     state: BlockSigns,
     peaks: Vec<u32>,
@@ -159,7 +159,7 @@ impl Columns {
         self.state.with(ends)
     }
 
-    /// Adds at least one event and at most `most`, all to one column, that left the count as it is.
+    /// Adds at least one event and at most `most`, all to one column. They left the count as it is.
     fn add_some(&mut self, most: u64, ends: BlockSigns) -> Result<(), AllocError>
         requires some { 0 < most }
         requires small { self.old.events + most ≤ 2 ^ 63 }

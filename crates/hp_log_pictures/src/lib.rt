@@ -1,10 +1,10 @@
-//! A log as one SVG picture: a band per memory block, with its frames in use, the times when it is
-//! going online or offline, and the ends of these.
+//! A log as one SVG picture: a band per memory block shows its frames in use, when it is going
+//! online, going offline or offline, and how its onlines and offlines ended.
 //!
 //! Reads the log as it comes: no event is kept. A picture has at most 1,024 columns per block, of
-//! equal numbers of events. `Columns` owns them: each event lies in one of them, and no column is
-//! lower than a count of its events (proved). The text of a picture is tested. hp_verdicts reads
-//! and judges. Read specs/Columns first.
+//! equal numbers of events. `Columns` owns them: each event lies in one of them, and a column is at
+//! least as high as each count that was entered for one of its events (proved). The text of a
+//! picture is tested. hp_verdicts reads and judges. Read specs/Columns first.
 #![tactic(auto)]
 
 mod bands;

@@ -71,8 +71,8 @@ impl Shade {
     }
 }
 
-/// Draws the band of a memory block: its shades, then its frames in use, then the signs of its
-/// ends.
+/// Draws the band of a memory block: its shades, then its frames in use, then the signs of onlines
+/// and offlines that ended.
 pub(crate) fn write_band(
     out: &mut String,
     scale: &Scale,

@@ -17,12 +17,12 @@ pub enum LineFault {
     RepeatedKey,
     /// A key's value has the wrong type, is too large, or is a word that the key does not take.
     WrongValue,
-    /// The line has no key that names its event, or several, or keys that do not belong to the
-    /// event.
+    /// Several keys name an event, or none does although a key belongs to one. Or a key does not
+    /// belong to the line's event, or a move has no `to`.
     NotAnEvent,
     /// A line that is not the first has the number of frames per memory block.
     LateBlockFrames,
-    /// A page event of ftrace has no frame or order that can be read.
+    /// A page event of ftrace lacks a frame or an order that can be read.
     WrongFields,
     /// The kernel's buffer was full, and events are missing.
     EventsLost,

@@ -11,7 +11,7 @@ use memchr::memchr;
 /// The page events are the kernel's `mm_page_alloc` and `mm_page_free`. Onlines and offlines are
 /// marks that a test writes into trace_marker around each write to a file of a memory block: `begin
 /// memory32/state offline`, then `end memory32/state offline ok`, or another word in place of `ok`.
-/// Every other line is `LogEvent::Other`.
+/// Every other line is `LogEvent::Other`, but a note that events are missing is a fault.
 pub fn ftrace_event(line: &[u8]) -> Result<LogEvent, LineFault> {
     match traced(line) {
         Some((b"mm_page_alloc", fields)) => alloc_event(fields),
@@ -92,7 +92,8 @@ fn page_fields(text: &[u8]) -> PageFields {
     fields
 }
 
-/// Reads the number of a frame. Before Linux 5.10 it was decimal.
+/// Reads the number of a frame: hexadecimal after `0x`, otherwise decimal, as older versions of
+/// Linux write it.
 fn frame_number(text: &str) -> Option<u32> {
     match text.strip_prefix("0x") {
         Some(digits) => u32::from_str_radix(digits, 16).ok(),

@@ -6,7 +6,7 @@ use hp_streams::Source;
 use memchr::memchr;
 use std::alloc::{AllocError, Global};
 
-/// The greatest length of a line, in bytes, without its newline.
+/// A line can be read if it has at most this many bytes before its `\n`.
 pub const LINE_LIMIT: usize = 65_536;
 
 /// The size of the buffer: a line of the greatest length, and as much again to read ahead.
@@ -101,7 +101,8 @@ impl LineReader {
         true
     }
 
-    /// Moves to the line of the next `length` bytes, and skips `passed` bytes.
+    /// Makes the next `length` bytes the current line, and moves past `passed` bytes: those of the
+    /// line, and of its newline if there is one.
     fn take(&mut self, length: usize, passed: usize)
         requires line { length ≤ passed }
         requires within { self.old.start + passed ≤ self.old.end }

@@ -9,8 +9,8 @@ use json::{Reader, Scratch, Token};
 /// An object in which no key comes twice has at most this many keys.
 const MOST_KEYS: usize = 12;
 
-/// Reads a line as an event. These are `LogEvent::Other`: an empty line, an object with only a
-/// note, and a first line with the number of frames per memory block.
+/// Reads a line as an event. These are `LogEvent::Other`: an empty line, an object with no key but
+/// `note`, and a first line with the number of frames per memory block.
 pub fn json_event(
     line: &[u8],
     is_first: bool,
@@ -147,12 +147,12 @@ impl Keys {
         is_of_frames || self.online.is_some() || self.offline.is_some()
     }
 
-    /// Returns whether the line has a key of an online, an offline or a move.
+    /// Returns whether the line has `zone`, `end` or `to`, which no alloc or free has.
     fn is_of_blocks(&self) -> bool {
         self.zone.is_some() || self.end.is_some() || self.to.is_some()
     }
 
-    /// Returns whether the line has a key of an alloc or a free.
+    /// Returns whether the line has `order` or `movable`, which only an alloc or a free can have.
     fn is_of_pieces(&self) -> bool {
         self.order.is_some() || self.movable.is_some()
     }
@@ -276,7 +276,7 @@ fn set_end(slot: &mut Option<bool>, value: Option<Token<'_>>) -> Result<(), Line
     checked(slot.is_some())
 }
 
-/// Returns the token's value if it is a number below 2^32.
+/// Returns the token's value if it is a whole number below 2^32, written in digits only.
 fn number_of(value: Option<Token<'_>>) -> Option<u32> {
     match value {
         Some(Token::Number(text)) => text.parse::<u32>().ok(),

@@ -6,9 +6,9 @@ use Rattle.hp_units.specs.Placement.{IsWellPlaced}
 use Rattle.hp_laws.specs.Offline.{AreClaimedUpTo}
 use Rattle.hp_machine.specs.Machine.{IsHistory, MachineValue}
 
--- each frame of the base is in exactly one place, and operations in it have numbers up to that of
--- the last sealed record. The history is within its limit, and the base is the boot state until the
--- first seal
+-- the layout and the history are within their limits, and the history is legal and leads to the state.
+-- Each frame of the base is in exactly one place, and operations that hold blocks of the base have
+-- numbers up to that of the last sealed record. Until a record is sealed, the base is the state at boot
 pub record IsMachine (m : MachineValue) : Type 0 where
   pub limits : IsLayout m.layout
   pub placed : IsWellPlaced m.layout m.base

@@ -38,7 +38,7 @@ pub record IsSound (m : MachineValue) : Type 0 where
   pub base_numbered : AreClaimedUpTo m.before m.base.blocks
   pub contents : m.state.pages.contents ≡ contents_of_net m.layout m.base.pages.contents (net_of m.history)
 
--- the history holds its limit, or no serial is left
+-- the history has at least as many records as the layout allows, or no serial is left
 abbrev pub is_full : MachineValue → Bool
 is_full m = nat_le m.layout.history (length m.history) || is_spent m
 

@@ -36,7 +36,7 @@ pub record IsPlanRun (m : MachineValue) (cpu turns : ℕ) (plan : List Item) (en
   pub cause : HasCause fault new
   pub run : IsDriverRun m.layout.cpus turns plan receipts fault end
 
--- calls after calls are calls with all their receipts
+-- if calls follow calls, together they are calls with the receipts of both
 pub calls_joined : (cpu : ℕ) (xs ys : List Receipt) (old mid new : MachineValue) → AreCalls old cpu xs mid
     → AreCalls mid cpu ys new → AreCalls old cpu (xs ++ ys) new
 calls_joined cpu [] ys old mid new first second =
@@ -44,7 +44,7 @@ calls_joined cpu [] ys old mid new first second =
 calls_joined cpu (x ∷ xs) ys old mid new first second =
     (first.0, first.1, first.2, calls_joined cpu xs ys first.0 mid new first.3 second)
 
--- as `calls_joined`, but the processor of the second calls has a name of its own and is equal
+-- as `calls_joined`; the processor of the second calls, `same`, is `cpu` under another name
 pub makes_joined : (cpu same : ℕ) (xs ys : List Receipt) (old mid new : MachineValue) → same ≡ cpu
     → AreCalls old cpu xs mid → AreCalls mid same ys new → AreCalls old cpu (xs ++ ys) new
 makes_joined cpu same xs ys old mid new is first second =

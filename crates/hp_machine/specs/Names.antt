@@ -1,5 +1,5 @@
--- The variants of the events and replies under names of their own, exported again from one place.
--- Declares nothing.
+-- Exports again, from one place, the types and variants of plans, events, replies and faults that this
+-- crate uses. Declares nothing.
 pub use Rattle.hp_units.specs.declared.events.Event.TheVariants.{KernelAlloc, KernelFree, Map, Unmap, Write, Read, Drain, Online, Begin, DrainFor, Migrate, Commit, Cancel, UndoAfter, Probe, Remove, SetAuto}
 pub use Rattle.hp_units.specs.declared.replies.Reply.TheVariants.{Done, Moved, Released, Refused}
 pub use Rattle.hp_units.specs.declared.replies.Refusal.TheVariants.{NoCpu, NoFrame, NoOp, NothingToMove, NotFree}

@@ -20,8 +20,9 @@ pub record HoldsRows (m : MachineValue) : Type 0 where
       → RowsAre m.state plan
       (λ item. row_of (state_behind m.layout m.base m.before m.history b).blocks item.block)
 
--- a Commit that is not refused gives each block its wish, all in one step; just before the Commit,
--- the rows are as the Begin left them. `h` are the records before the Commit
+-- a Commit that is not refused, of an operation whose Begin is in the history and not undone, gives
+-- each block of the plan its wish, all in one step. Just before the Commit, the rows are as the Begin
+-- left them. `h` are the records before the Commit
 pub record GrantsWishes (m : MachineValue) : Type 0 where
   pub held : (h rest : List Record) (r : Record) (place : ℕ) (b : Record) (plan : List Item)
       → m.history ≡ h ++ r ∷ rest → BeginsAt (net_of h) place b plan → r.event ≡ Commit b.serial
@@ -33,8 +34,8 @@ pub record GrantsWishes (m : MachineValue) : Type 0 where
       → is_refused r.reply ≡ false
       → RowsAre (value_of m.layout m.base (h ++ r ∷ [])) plan (λ item. wished_row item.wish)
 
--- a Cancel that is not refused gives each block the row from just before the Begin. `h` are the
--- records before the Cancel
+-- a Cancel that is not refused, of an operation whose Begin is in the history and not undone, gives
+-- each block of the plan the row from just before the Begin. `h` are the records before the Cancel
 abbrev pub GivesRowsBack : MachineValue → Type 0
 GivesRowsBack m =
     (h rest : List Record) (r : Record) (place : ℕ) (b : Record) (plan : List Item)

@@ -49,9 +49,9 @@ pub record HoldsRowsAfter (volumes : List Volume) (m : MachineValue) : Type 0 wh
       → IsOpenBehind b.serial place (net_of_all (all_records volumes m))
       → RowsAre m.state plan (λ item. row_of (left_by m (all_records volumes m) b).blocks item.block)
 
--- a Commit that is not refused gives each block its wish, all in one step; just before the Commit,
--- the rows are as the Begin left them. `earlier` are the histories before the one with the Commit,
--- `h` the records before the Commit in that one
+-- a Commit that is not refused, of an operation whose Begin is not undone, gives each block of the plan
+-- its wish, all in one step. Just before the Commit, the rows are as the Begin left them. `earlier` are
+-- the histories before the one with the Commit, `h` the records before the Commit in that one
 pub record GrantsWishesAfter (volumes : List Volume) (m : MachineValue) : Type 0 where
   pub held : (earlier later : List (List Record)) (h rest : List Record) (r : Record) (place : ℕ) (b : Record)
       (plan : List Item)
@@ -67,8 +67,8 @@ pub record GrantsWishesAfter (volumes : List Volume) (m : MachineValue) : Type 0
       → is_refused r.reply ≡ false
       → RowsAre (reached m (earlier ++ (h ++ r ∷ []) ∷ [])) plan (λ item. wished_row item.wish)
 
--- a Cancel that is not refused gives each block back the row that it had just before the Begin;
--- `earlier` and `h` are as in GrantsWishesAfter
+-- a Cancel that is not refused, of an operation whose Begin is not undone, gives each block of the plan
+-- back the row that it had just before the Begin. `earlier` and `h` are as in GrantsWishesAfter
 abbrev pub GivesRowsBackAfter : List Volume → MachineValue → Type 0
 GivesRowsBackAfter volumes m =
     (earlier later : List (List Record)) (h rest : List Record) (r : Record) (place : ℕ) (b : Record)

@@ -231,7 +231,7 @@ impl Machine {
     }
 
     /// Returns the front block of the free list of a class and an order, or `None` if the list is
-    /// empty or the order above the greatest (Gorman, chapter 6: free_area).
+    /// empty or the order is above the greatest (Gorman, chapter 6: free_area).
     pub fn front(&self, class: Class, order: Order) -> Option<Frame>
         ensures { result ≡ slice_get (free_list self.now.state.free.areas class order) 0 }
     {
@@ -293,9 +293,9 @@ impl Machine {
         self.course.journal_len()
     }
 
-    /// Returns the deltas of step `at` of those that are not undone, counted from 0; `None` past
-    /// the last. Latest first, they lead back from the state after the step to the state before it.
-    /// There are at most as many as the step's bound.
+    /// Returns the deltas of step `at`, counted from 0 among the steps that are not undone; `None`
+    /// past the last. Latest first, they lead back from the state after the step to the state
+    /// before it. There are at most as many as the step's bound.
     pub fn entry(&self, at: u64) -> Option<&[Delta]>
         ensures { MatchOption result (length (net_of self.now.history) ≤ at)
             (λ deltas. IsEntry self.now at deltas.now) }
@@ -303,8 +303,9 @@ impl Machine {
         self.course.entry(at)
     }
 
-    /// Returns the deltas of the steps from `at` on, counted from 0; `None` past the end of the
-    /// journal. An undo that keeps only the steps before `at` undoes just these, latest first.
+    /// Returns the deltas of step `at` and of all later steps, counted as in `entry`: none if `at`
+    /// is the number of steps, and `None` if it is greater. An undo that keeps only the steps
+    /// before `at` undoes just these, latest first.
     pub fn way_back(&self, at: u64) -> Option<&[Delta]>
         ensures { MatchOption result (length (net_of self.now.history) < at)
             (λ deltas. IsWayBack self.now at deltas.now) }

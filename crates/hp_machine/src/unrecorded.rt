@@ -12,7 +12,8 @@ use hp_units::{CallFault, Cpu, Event, Layout, OpEnd, Plan, Reply, Serial};
 use std::alloc::{AllocError, Global};
 use std::marker::Model;
 
-/// A machine that keeps no records: a journal whose history has the layout's limit.
+/// A machine that keeps no records: a journal whose history may have as many records as
+/// the layout allows.
 ///
 /// It replies to each call as a `Machine` does. Its value is a machine's, with the base and the
 /// records; these exist only in proofs, and take no bytes.

@@ -48,7 +48,7 @@ on_page ps owner page = on_entry owner (frame_at ps owner page)
 abbrev pub on_owner : LayoutParts → Pages → (owner : ℕ) → Mark
 on_owner l ps owner = marks_below (on_page ps owner) l.pages
 
--- gives `count` frames from `first` on this place
+-- gives this place to `count` frames, from `first` on
 abbrev pub on_frames : (first count : ℕ) → Place → Mark
 on_frames first count place = marks_below (λ offset. at_frame (first + offset) place) count
 

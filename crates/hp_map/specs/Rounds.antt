@@ -51,7 +51,8 @@ abbrev pub counted : (n : ℕ) → (answer words : List ℕ) → (serial : Optio
 counted n answer words None = answer
 counted n answer words (Some serial) = decimal (serial + n) ++ codes ":" ++ words
 
--- the answer with its serial raised by n, from the texts before and after its first colon
+-- the answer with its serial raised by n, given the texts before and after its first colon;
+-- unchanged if it has no colon or begins with no serial
 abbrev pub counted_in : (n : ℕ) → (answer : List ℕ) → Option (List ℕ × List ℕ) → List ℕ
 counted_in n answer None = answer
 counted_in n answer (Some halves) = counted n answer halves.1 (number_of 64 halves.0)
@@ -146,8 +147,9 @@ pub record JoinerValue : Type 0 where
 abbrev pub nothing_read : JoinerValue
 nothing_read = record { last = None; rest = [] }
 
--- the rows read so far are the rows of the finished entries `done`, the rows of the entry `last`,
--- and the rows `left`
+-- the rows read so far are those of the finished entries `done`, those of the entry `last`, and the
+-- rows `left`. In the entries, equal rounds are joined. `left` are a round, or a single row that
+-- does not continue the round of `last`; they are none only before the first row
 abbrev pub HasRead : (done : List RoundsValue) → (last : Option RoundsValue) → (left rows : List RowValue)
     → Type 0
 HasRead done last [] rows = (done ≡ []) × (last ≡ None) × (rows ≡ [])

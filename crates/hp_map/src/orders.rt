@@ -76,7 +76,8 @@ fn order_of(machine: &Machine, frame: Frame) -> Option<Order>
     None
 }
 
-/// Returns whether a free block starts at this place, and has this order.
+/// Returns whether a free block of this order starts at a frame. `place` is the class and the order
+/// of the free block that starts there, if one does.
 fn has_order(place: Option<(Class, Order)>, order: Order) -> bool {
     match place {
         Some(place) => place.1 == order,

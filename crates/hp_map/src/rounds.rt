@@ -11,8 +11,8 @@ use std::alloc::{AllocError, Global};
 use std::marker::Model;
 
 /// A round of a plan's calls, and how many rounds right after it repeat it. A round repeats another
-/// if its calls are the same, got the same replies, and left the memory as it was. Or a single row
-/// that belongs to no round, with 0 repetitions.
+/// if its calls are the same, got the same replies, and left the memory as it was. Instead of a
+/// round, this may be a single row that belongs to no round, with 0 repetitions.
 #[derive(Drop)]
 pub struct Rounds {
     rows: Vec<RowPicture>,

@@ -1,4 +1,4 @@
--- What a contract sees of a machine's memory, and what is needed to lead it back.
+-- The value of a machine's memory in contracts, and what is needed to lead it back.
 use Rattle.std.specs.Prelude.{List}
 use Rattle.std.specs.List.{AllByRecursion}
 use Rattle.hp_units.specs.LayoutParts.{LayoutParts}

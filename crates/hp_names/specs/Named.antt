@@ -47,11 +47,12 @@ with_line r plain n = record {
   bound = bound_after r.bound plain.naming (length r.lines) 0;
 }
 
--- what is read after one more line; None if its text without names is not a line
+-- what is read after one more line; None if its text without names cannot be read as a line
 abbrev pub with_plain : ReadingValue → PlainLine → Option ReadingValue
 with_plain r plain = option_map (with_line r plain) (line_in r.names plain.text)
 
--- what is read after one more text; None if the text, with its names taken out, is not a line
+-- what is read after one more text; None if the text, with its names taken out, cannot be read as a
+-- line
 abbrev pub with_text : ReadingValue → List ℕ → Option ReadingValue
 with_text r text = with_plain r (plain_in r.bound text)
 

@@ -1,5 +1,5 @@
 -- A line's text without names: `as NAME` is taken off, and `$NAME` is replaced by its result's
--- number. A text whose names are not understood is left unchanged, and is not a line.
+-- number. A text whose names are not understood is left unchanged, and cannot be read as a line.
 use Rattle.std.specs.Prelude.{ℕ, List, [], ◌∷◌, Option, Some, None, if◌then◌else◌, option_and_then}
 use Rattle.std.specs.Fmt.{decimal}
 use Rattle.hp_scenario.specs.Words.{words_of}
@@ -66,7 +66,8 @@ line_by_use bound text cpu verb args (Some (Gives kind)) =
     naming_line text (cpu ∷ verb ∷ args) cpu kind (name_at_end args)
 line_by_use bound text cpu verb args (Some (Takes kind)) = working_line bound text cpu verb kind args
 
--- the text of these words without names; `bound` has the names of results of the lines before it
+-- the text, which has these words, without its names; `bound` has the names of results of the lines
+-- before it
 unfoldable pub plain_of : Bound → (text : List ℕ) → (words : List (List ℕ)) → PlainLine
 plain_of bound text [] = unchanged text
 plain_of bound text (cpu ∷ []) = unchanged text

@@ -72,8 +72,8 @@ lines_after numbers sources [] = []
 lines_after numbers sources (line ∷ lines) =
     line_after numbers (first_source sources) line ∷ lines_after numbers (drop 1 sources) lines
 
--- the sources (indices of lines), with None in place of each for which `numbers` has that line's
--- result
+-- the sources (indices of lines). Each is replaced by None if `numbers` has the number of that
+-- line's result
 abbrev pub sources_after : List ℕ → List (Option ℕ) → List (Option ℕ)
 sources_after numbers sources = map (source_after numbers) sources
 

@@ -1,4 +1,4 @@
--- A scenario with names, as clauses see it.
+-- The value of a scenario with names in contracts.
 use Rattle.hp_scenario.specs.Seen.{scenario_seen}
 use Rattle.hp_names.specs.Named.{NamedValue}
 use Rattle.hp_names.specs.declared.named.NamedScenario.{NamedScenario}

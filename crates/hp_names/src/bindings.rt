@@ -19,7 +19,8 @@ pub struct Naming {
     pub kind: ResultKind,
 }
 
-/// The latest result for each processor and name. A contract sees a list.
+/// The latest result for each processor and name. In contracts, its value is a list of keys and
+/// results.
 #[derive(Drop)]
 pub struct Bindings {
     results: IndexMap<Text, NamedResult>,

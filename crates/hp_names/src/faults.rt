@@ -5,7 +5,7 @@ use crate::results::{NameUse, ResultKind, use_of_verb};
 use crate::words::{after_dollar, last_two, name_at_end, words_in};
 use std::alloc::{AllocError, Global};
 
-/// Why the names in a text that is not a line are not understood.
+/// Why the names in a text are not understood, so that it cannot be read as a line.
 #[derive(Clone, Copy, Debug, PartialEq, Eq, Drop)]
 pub enum NameFault {
     /// No earlier line of the processor gives its result the name after `$`.
@@ -23,7 +23,8 @@ pub enum NameFault {
 }
 
 /// Returns why the names in a text are not understood, given what names are bound to before it.
-/// Call this only for a text that is not a line: the words of an `echo` may look like names.
+/// Call this only for a text that cannot be read as a line: the words of an `echo` may look like
+/// names.
 pub fn name_fault(
     alloc: Global,
     text: &str,

@@ -18,8 +18,8 @@ use serde_json::Value;
 use std::alloc::{AllocError, Global};
 use std::marker::Model;
 
-/// For each line of a scenario, the index of the line whose result it works on, if there is one. A
-/// contract sees a list.
+/// For each line of a scenario, the index of the line whose result it works on by name, if it does.
+/// In contracts, its value is the list of these.
 #[derive(Drop)]
 pub struct Sources {
     sources: Vec<Option<usize>>,
@@ -73,7 +73,7 @@ impl NamedScenario {
     /// Reads a scenario whose lines may have names for their results. A text without names is read
     /// as by [`Scenario::read`], and just as fast if it has no `$` byte.
     ///
-    /// A text whose names are not understood is not a line.
+    /// A text whose names are not understood cannot be read as a line.
     pub fn read(alloc: Global, bytes: &[u8]) -> Result<NamedScenario, ScenarioFault>
         ensures { Gives named_seen result (named_in bytes.now) }
     {

@@ -14,7 +14,7 @@ use std::alloc::{AllocError, Global};
 #[derive(Drop)]
 pub struct PlainLine {
     /// The text, without ` as NAME`, and with a number in place of `$NAME`. Unchanged if there is
-    /// no name, or if the name is not understood; in the second case the text is not a line.
+    /// no name, or if the name is not understood. In the second case it cannot be read as a line.
     pub text: Text,
     /// The index of the line whose result the name after `$` means.
     pub source: Option<usize>,

@@ -50,7 +50,7 @@ impl Reading {
         }
     }
 
-    /// Appends the lines in the texts, as the first lines.
+    /// Adds the lines in the texts, in order. There are no lines yet.
     pub(crate) fn add_all(&mut self, alloc: Global, texts: &Texts<'_>) -> Result<(), ScenarioFault>
         requires { self.old ≡ nothing }
         ensures { Gives (λ _. self.new) result (lines_from 1 nothing texts.now) }
@@ -64,8 +64,8 @@ impl Reading {
         Ok(())
     }
 
-    /// Appends the line in a text. Returns `false` if the text, with its names taken out, is not a
-    /// line.
+    /// Appends the line in a text. Returns `false` if the text, with its names taken out, cannot be
+    /// read as a line.
     fn add(&mut self, alloc: Global, text: &str) -> Result<bool, AllocError>
         ensures { IfOk result
             (λ is_line. with_text self.old text.now ≡ (if is_line then Some self.new else None)) }

@@ -10,8 +10,8 @@ use hp_scenario::{Asked, Line};
 use hp_units::{CallFault, Cpu, Event, OpEnd, Plan};
 use std::alloc::{AllocError, Global};
 
-/// Runs a line on the machine, as `hotplug serial` does. Returns the number of its result, or 0 if
-/// it has none.
+/// Runs a line on the machine, as `hotplug serial` does. Returns the number of its result, which is
+/// 0 unless the line is a `begin` or a `kalloc` (see `result_number` and `missing_number`).
 ///
 /// A text that a control file does not take does nothing, and neither does `cat`. A full history is
 /// no error. The records that a `seal` hands out are dropped.

@@ -12,7 +12,8 @@ is_bare word = not (slice_index word 0 == 43) && (nat_lt (length word) 2 || not 
 abbrev pub is_digits : List ℕ → Bool
 is_digits word = all_ascii_digits word && nat_lt 0 (length word)
 
--- the number that the digits are, if it is below 2 ^ bits
+-- the number that the digits are, with or without leading zeros, if it is below 2 ^ bits. None also
+-- if the word is empty or has another byte
 unfoldable pub digits_in : ℕ → List ℕ → Option ℕ
 digits_in bits word =
     if is_digits word && nat_lt (digits_value 10 word) (2 ^ bits) then Some (digits_value 10 word) else None
@@ -21,8 +22,8 @@ digits_in bits word =
 unfoldable pub number_of : ℕ → List ℕ → Option ℕ
 number_of bits word = if is_bare word then digits_in bits word else None
 
--- for up to 64 bits, a word is read as a number exactly if it is the decimal digits of the number,
--- which is below 2 ^ bits
+-- if `bits` is at most 64, a word is read as the number n if and only if n is below 2 ^ bits and
+-- the word is n in decimal digits
 abbrev pub NumbersAreSpelled : Type 0
 NumbersAreSpelled =
     (bits : ℕ) (word : List ℕ) (n : ℕ) → bits ≤ 64

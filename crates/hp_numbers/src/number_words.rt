@@ -2,7 +2,8 @@
 ghost use Rattle.std.specs.Prelude.{◌≡◌};
 ghost use Rattle.hp_numbers.specs.NumberWords.{NumbersAreSpelled, is_bare as bare, number_of};
 
-/// Returns whether the word has neither a `+` nor a leading zero; `parse` would accept both.
+/// Returns whether the word has neither a leading `+` nor a leading zero; `parse` would accept
+/// both.
 fn is_bare(word: &str) -> bool
     ensures { result ≡ bare word.now }
 {
@@ -33,8 +34,8 @@ pub fn number64(word: &str) -> Option<u64>
     word.parse::<u64>().ok()
 }
 
-/// For up to 64 bits, a word is read as a number exactly if it is the decimal digits of the number,
-/// which is below 2^bits.
+/// If `bits` is at most 64, a word is read as the number n if and only if n is below 2^bits and the
+/// word is n in decimal digits.
 pub fn numbers_are_spelled()
     ensures { NumbersAreSpelled }
 {}

@@ -1,4 +1,5 @@
-//! Numbers of things, each with a type of its own. A contract sees the number itself.
+//! Numbers of things, each with a type of its own. In contracts, the value of each is the number
+//! itself.
 ghost use Rattle.std.specs.Prelude.{◌≡◌, ℕ, ◌<◌};
 ghost use Rattle.hp_numbers.specs.Numbers.{ancestor};
 

@@ -1,4 +1,4 @@
-//! A text that contracts see as its bytes.
+//! A text. In contracts, its value is the list of its bytes.
 ghost use Rattle.std.specs.Prelude.{◌≡◌, IfOk, string_bytes};
 
 use std::alloc::{AllocError, Global};

@@ -1,5 +1,5 @@
--- The variants of the events, replies and ends under names of their own, exported again from one
--- place. Declares nothing.
+-- Exports again, from one place, the types and variants of plans, events, replies and drivers that this
+-- crate uses. Some variants are renamed, such as `Begin` of a stage to `Begins`. Declares nothing.
 pub use Rattle.hp_units.specs.declared.events.Event.TheVariants.{Begin, DrainFor, Migrate, Commit, Cancel}
 pub use Rattle.hp_units.specs.declared.replies.Reply.TheVariants.{Done, Moved, Opened, Restored, Released, Refused}
 pub use Rattle.hp_units.specs.declared.replies.Refusal.TheVariants.{NoFrame, NoOp, NothingToMove, NotFree}

@@ -14,7 +14,7 @@ pub record PortValue : Type 0 where
 abbrev pub with_receipts : PortValue → List Receipt → Option CallFault → PortValue
 with_receipts p gained fault = record { receipts = p.receipts ++ gained; fault = fault; cpus = p.cpus }
 
--- one of the receipts opened an operation
+-- the reply opened an operation; one of the receipts has such a reply
 abbrev pub is_opened : Reply → Bool
 is_opened (Opened op) = true
 is_opened reply = false
@@ -28,7 +28,9 @@ has_opened receipts = list_any (λ r. is_opened r.reply) receipts
 abbrev pub IsBeginReply : Reply → Type 0
 IsBeginReply reply = ((op : ℕ) × (reply ≡ Opened op)) ⊎ ((refusal : Refusal) × (reply ≡ Refused refusal))
 
--- a reply to a Migrate, a Commit or a Cancel of an operation that is live, and to any of its events
+-- a reply to a Migrate, a Commit or a Cancel of a live operation; then to any event of a live
+-- operation. The last claims nothing about a DrainFor for a processor that the machine does not have,
+-- or about other events
 abbrev pub IsMigrateReply : Reply → Type 0
 IsMigrateReply reply =
     ((from : ℕ) × (to : ℕ) × (reply ≡ Moved from to))
@@ -53,14 +55,16 @@ IsDriverReply cpus event reply = (reply ≡ Refused NoOp) ⊎ IsLiveReply cpus e
 
 -- ---- one call, and several
 
--- a call gave a receipt: of the event that was asked, with a reply that the driver knows
+-- a call gave a receipt of the event that was asked for. The port has this receipt more, and shows no
+-- fault. A Begin got a reply to a Begin; if an operation was opened before, the event got a reply to an
+-- event of an operation
 pub record IsGiven (old : PortValue) (event : Event) (r : Receipt) (new : PortValue) : Type 0 where
   pub asked : r.event ≡ event
   pub value : new ≡ with_receipts old (r ∷ []) None
   pub begun : (plan : List Item) → event ≡ Begin plan → IsBeginReply r.reply
   pub known : has_opened old.receipts ≡ true → IsDriverReply old.cpus event r.reply
 
--- a call gave a reply: it added one receipt with this reply, and made the new port of the old
+-- a call gave a reply: it added one receipt with this reply, and turned the old port into the new one
 pub record IsReplied {S : Type 0} (shows : S → PortValue) (makes : S → List Receipt → S → Type 0) (old : S)
     (event : Event) (reply : Reply) (new : S) : Type 0 where
   pub receipt : Receipt
@@ -75,7 +79,8 @@ AreMade makes leaves old gained None new = makes old gained new
 AreMade {S} makes leaves old gained (Some fault) new =
     (last : S) × makes old gained last × leaves last fault new
 
--- calls gave further receipts, of which `P` holds, and at most the last call failed
+-- calls gave the receipts `gained`, of which `P` holds; if there is a fault, one more
+-- call failed with it
 pub record Gains {S : Type 0} (shows : S → PortValue) (makes : S → List Receipt → S → Type 0)
     (leaves : S → CallFault → S → Type 0) (old : S) (fault : Option CallFault) (new : S)
     (P : List Receipt → Type 0) : Type 0 where

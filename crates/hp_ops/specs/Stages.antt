@@ -20,17 +20,17 @@ work_in (Commits op) = Some (Commit op)
 work_in (Cancels op) = Some (Cancel op)
 work_in stage = None
 
--- the event of a stage
+-- the event that the driver asks for in a stage; None once the run is over
 abbrev pub event_in : List Item → Stage → Option Event
 event_in plan Begins = Some (Begin plan)
 event_in plan stage = work_in stage
 
--- the end of a run
+-- how the run ended; None if it goes on, or ended by a reply that no machine gives
 abbrev pub end_in : Stage → Option OpEnd
 end_in (Ended end) = end
 end_in stage = None
 
--- the driver has taken a reply, and its run is over
+-- the driver has taken a reply; its run is over
 abbrev pub has_begun : Stage → Bool
 has_begun Begins = false
 has_begun stage = true
@@ -39,8 +39,8 @@ abbrev pub is_over : Stage → Bool
 is_over (Ended end) = true
 is_over stage = false
 
--- a stage by two numbers: which stage it is, with the processor of a drain; and the operation that
--- it works on, or 0
+-- a stage as two numbers: which stage it is (for a drain, with its processor), and the operation
+-- that it works on, or 0
 abbrev pub stage_number : Stage → ℕ
 stage_number Begins = 0
 stage_number (Migrates op) = 1
@@ -70,8 +70,8 @@ pub record IsAfter (cpus turns : ℕ) (receipts : List Receipt) (d : Driver) : T
   pub next : (plan : List Item) → event_in plan d.stage ≡ next_event cpus turns plan receipts
   pub end : end_in d.stage ≡ end_of receipts
 
--- if the old driver is one after some receipts, the new one is after these and one more, of this
--- event and reply
+-- if the old driver is the driver after some receipts, the new one is the driver after one receipt
+-- more, which has this event and this reply
 abbrev pub MovesOn : Driver → Event → Reply → Driver → Type 0
 MovesOn old event reply new =
     (cpus turns : ℕ) (earlier : List Receipt) (r : Receipt) → r.event ≡ event → r.reply ≡ reply
@@ -93,14 +93,14 @@ Follows cpus left event reply stage =
 abbrev pub EndsAs : Option Refusal → Event → Reply → Stage → Type 0
 EndsAs why event reply stage = end_in stage ≡ end_after why event reply
 
--- the stage is the drain of a round for a processor; after the last one it is a migration, or a
--- cancel if no more may be tried
+-- the stage is the drain of processor `cpu` in a round of drains; after the last processor it is a
+-- migration, or a cancel if no more may be tried
 abbrev pub IsRound : (cpus left op cpu : ℕ) → Stage → Type 0
 IsRound cpus left op cpu stage =
     (turns : ℕ) (plan : List Item) (receipts : List Receipt) → Leaves turns left receipts
     → event_in plan stage ≡ Some (next_drain cpus turns op cpu receipts)
 
--- the end, if a reply reports that the operation is no longer live
+-- the end `Undone`, if the reply reports that the operation is no longer live; otherwise None
 abbrev pub undone_by : Reply → Option OpEnd
 undone_by (Refused NoOp) = Some EndsUndone
 undone_by reply = None

@@ -12,10 +12,10 @@ pub trait Port {
     /// The receipts so far, the fault of the last call, and the number of processors.
     ghost shows: { Self → PortValue };
 
-    /// What calls with these receipts make of the port.
+    /// Calls with these receipts turn the first port into the second.
     ghost makes: { Self → List Receipt → Self → Type 0 };
 
-    /// What a call that failed makes of the port.
+    /// A call that fails with this fault turns the first port into the second.
     ghost leaves: { Self → CallFault → Self → Type 0 };
 
     /// Returns the number of processors.
@@ -33,8 +33,8 @@ pub trait Port {
     /// Without a call, the port stays as it is.
     ghost nothing: { (p : Self) → makes p [] p };
 
-    /// Calls after calls are calls with all their receipts. No law covers a call after a fault, so
-    /// a caller that is proved for every port makes none.
+    /// If calls follow calls, together they are calls with the receipts of both. No law covers a
+    /// call after a fault, so a caller that is proved for every port makes none.
     ghost joined: { (p q r : Self) (xs ys : List Receipt) → makes p xs q → makes q ys r
         → makes p (xs ++ ys) r };
 }

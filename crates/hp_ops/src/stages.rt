@@ -183,8 +183,9 @@ impl Driver {
         }
     }
 
-    /// Returns the stage after a drain that was done: the next processor's drain. After the last
-    /// processor it is a migration, or a cancel if no more may be tried.
+    /// Returns the stage after the reply to a drain. If the drain was done, this is the
+    /// next processor's drain. After the last processor it is a migration, or a cancel if
+    /// no more may be tried.
     fn after_drain(&self, op: Serial, cpu: Cpu, reply: &Reply) -> Stage
         ensures next { Follows self.now.cpus self.now.left (DrainFor op cpu) reply.now result }
         ensures end { EndsAs self.now.why (DrainFor op cpu) reply.now result }
@@ -248,8 +249,8 @@ impl Driver {
         }
     }
 
-    /// Returns the drain of a round for a processor. After the last processor, returns a migration,
-    /// or a cancel if no more may be tried.
+    /// Returns the drain of processor `cpu` in a round of drains. After the last processor, returns
+    /// a migration, or a cancel if no more may be tried.
     fn round(&self, op: Serial, cpu: u32) -> Stage
         ensures next { IsRound self.now.cpus self.now.left op cpu result }
         ensures end { end_in result ≡ None }

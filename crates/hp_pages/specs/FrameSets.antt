@@ -18,7 +18,8 @@ pub record IsLowest (p : ℕ → Bool) (first past found : ℕ) : Type 0 where
   pub passes : p found ≡ true
   pub below : (n : ℕ) → first ≤ n → n < found → p n ≡ false
 
--- the lowest number that passes the test, with first <= number < past, if one does
+-- the option is the lowest number that passes the test with first <= number < past, or None if no
+-- such number passes
 abbrev pub FindsLowest : (ℕ → Bool) → (first past : ℕ) → Option ℕ → Type 0
 FindsLowest p first past None = (n : ℕ) → first ≤ n → n < past → p n ≡ false
 FindsLowest p first past (Some found) = IsLowest p first past found

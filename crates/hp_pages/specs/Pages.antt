@@ -1,4 +1,4 @@
--- What a contract sees of the layer of pages, and what its calls do.
+-- The value of the layer of pages in contracts, and what its calls do.
 use Rattle.std.specs.Prelude.{◌≡◌, ℕ, ◌≤◌, ◌==◌, ◌&&◌, Bool, false, not, List, [], Option, Some, None, IfSome, is_some, length, map, option_map, slice_index, slice_index_or, slice_set, unwrap_or, if◌then◌else◌}
 use Rattle.std.specs.List.{AllByRecursion}
 use Rattle.std.specs.Option.{option_and_then, option_map_or}
@@ -26,7 +26,7 @@ pub record ArePageFramesOf (l : LayoutParts) (v : PageFrames) : Type 0 where
   pub frames : length v.buffers ≡ frame_count l
   pub words : (frame : ℕ) → IfSome (buffer_of v frame) (λ words. length words ≡ l.words)
 
--- a buffer is that of a page, and one of its words is not 0
+-- a buffer is needed: its frame holds exactly one page, and one of its words is not 0
 pub record IsNeeded (v : PageFrames) (frame : ℕ) (words : List ℕ) : Type 0 where
   pub held : holders v.table frame ≡ 1
   pub some : is_blank words ≡ false
@@ -37,7 +37,7 @@ pub record AreSettled (v : PageFrames) : Type 0 where
   pub once : (frame : ℕ) → holders v.table frame ≤ 1
   pub buffers : (frame : ℕ) → IfSome (buffer_of v frame) (IsNeeded v frame)
 
--- the table, the buffers and the zeros as the layer stores them
+-- the table, the buffers and the one page of zeros, as the layer stores them, fit the layout
 pub record AreLayerOf (l : LayoutParts) (t : TableValue) (buffers : List (Option (List ℕ)))
     (words_of_none : List ℕ) : Type 0 where
   pub frames : t.frames ≡ frame_count l
@@ -93,7 +93,7 @@ abbrev pub change_at : LayoutParts → PageFrames → (frame index value : ℕ) 
 change_at l v frame index value =
     word_delta frame index (slice_index (words_in l v frame) index) value
 
--- a frame without a buffer needs one for a word that is not 0
+-- a write of this value needs a buffer: the frame has none, and the value is not 0
 abbrev pub needs_buffer : Option (List ℕ) → (value : ℕ) → Bool
 needs_buffer buffer value = not (is_some buffer) && not (value == 0)
 

@@ -1,4 +1,5 @@
--- How many pages a frame holds, and the sum of the places of these pages.
+-- How many pages a frame holds, and the sum of the indexes of these pages. The index of a page
+-- (`place`) counts the pages of all owners from 1, owner after owner.
 use Rattle.std.specs.Prelude.{◌≡◌, ℕ, zero, suc, ◌+◌, ◌-◌, ◌*◌, ◌^◌, ◌<◌, ◌≤◌, List, [], ◌∷◌, Option, Some, None, IfSome, length, count_by, nat_lt, slice_index, slice_set, sum_by, if◌then◌else◌}
 use Rattle.std.specs.List.{AllByRecursion}
 use Rattle.hp_units.specs.Memory.{entry_of}
@@ -14,22 +15,23 @@ abbrev pub frame_of_code : ℕ → Option ℕ
 frame_of_code zero = None
 frame_of_code (suc frame) = Some frame
 
--- ---- the place of a page: counted from 1, owner after owner
+-- ---- the index of a page: counted from 1, owner after owner
 
 abbrev pub place_of : (pages owner page : ℕ) → ℕ
 place_of pages owner page = 1 + owner * pages + page
 
--- the place if the entry is the frame, otherwise 0
+-- `place` if the entry is the frame, otherwise 0
 abbrev pub held : ℕ → Option ℕ → ℕ → ℕ
 held frame entry place = if holds frame entry then place else 0
 
--- the sum of the places of a row's pages that are mapped to the frame; the row begins at `place`
+-- the sum of the indexes of a row's pages that are mapped to the frame. The row's first page has
+-- the index `place`
 abbrev pub row_sum : (place : ℕ) → List (Option ℕ) → (frame : ℕ) → ℕ
 row_sum place [] frame = 0
 row_sum place (entry ∷ row) frame = held frame entry place + row_sum (place + 1) row frame
 
--- the sum of the places of a table's pages that are mapped to the frame; the table begins at
--- `place`
+-- the sum of the indexes of a table's pages that are mapped to the frame. The table's first page
+-- has the index `place`
 abbrev pub table_sum : (pages place : ℕ) → List (List (Option ℕ)) → (frame : ℕ) → ℕ
 table_sum pages place [] frame = 0
 table_sum pages place (row ∷ table) frame =
@@ -37,22 +39,22 @@ table_sum pages place (row ∷ table) frame =
 
 -- ---- the sums of all frames
 
--- the sums after the place is added to that of the entry's frame
+-- the sums after `place` is added to the sum of the entry's frame, if it has one
 abbrev pub joined : List ℕ → Option ℕ → (place : ℕ) → List ℕ
 joined sums None place = sums
 joined sums (Some frame) place = slice_set sums frame (slice_index sums frame + place)
 
--- the sums after the place is subtracted from that of the entry's frame
+-- the sums after `place` is subtracted from the sum of the entry's frame, if it has one
 abbrev pub left : List ℕ → Option ℕ → (place : ℕ) → List ℕ
 left sums None place = sums
 left sums (Some frame) place = slice_set sums frame (slice_index sums frame - place)
 
--- adding the place to the frame's sum does not overflow
+-- the frame has a sum, and adding `place` to it does not overflow
 pub record CanJoin (sums : List ℕ) (place frame : ℕ) : Type 0 where
   pub frame_in : frame < length sums
   pub fits : slice_index sums frame + place < 2 ^ 64
 
--- subtracting the place from the frame's sum does not go below 0
+-- the frame has a sum, and subtracting `place` from it does not go below 0
 pub record CanLeave (sums : List ℕ) (place frame : ℕ) : Type 0 where
   pub frame_in : frame < length sums
   pub among : place ≤ slice_index sums frame

@@ -10,7 +10,8 @@ use std::marker::Model;
 /// A set of frames, as a bitmap of 64 frames per word, lowest bit first. Only `none` and `copy`
 /// allocate.
 ///
-/// A contract sees the list of words; `has` of specs/FrameSets tests whether a frame is in the set.
+/// In contracts, its value is the list of words; `has` of specs/FrameSets tests whether a frame is
+/// in the set.
 #[derive(Drop)]
 pub struct FrameSet {
     words: Vec<u64>,

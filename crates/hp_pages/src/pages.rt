@@ -313,8 +313,9 @@ impl Pages {
         tape.note(Delta::Filled { index, frame, now });
     }
 
-    /// Writes a word of a frame that has a buffer. Without one, `value` must be 0, and nothing
-    /// changes. If all words of the frame are then 0, the old buffer moves onto the tape.
+    /// Writes a word of a frame that has a buffer. If all its words are then 0, the buffer moves
+    /// onto the tape, with the old word. If the frame has no buffer, `value` must be 0, and nothing
+    /// changes.
     fn overwrite(&mut self, frame: Frame, index: u32, value: u64, change: Delta, tape: &mut Tape)
         requires frame { IsFrame self.old.layout frame }
         requires index { index < self.old.layout.words }

@@ -1,4 +1,4 @@
-//! The page of each frame, as a sum of places.
+//! The page of each frame, as a sum of indexes of pages.
 ghost use Rattle.std.specs.Prelude.{◌≡◌, ◌+◌, ◌<◌, ◌≤◌, ◌^◌, IfOk, IfSome, length, nat_lt, replicate, slice_index, slice_set};
 ghost use Rattle.hp_pages.specs.FrameSets.{FindsLowest};
 ghost use Rattle.hp_pages.specs.Places.{CanJoin, CanLeave, joined, left};
@@ -8,9 +8,10 @@ use hp_units::Frame;
 use std::alloc::{AllocError, Global};
 use std::marker::Model;
 
-/// For each frame, the sum of the places, counted from 1, of the pages that map it.
+/// For each frame, the sum of the indexes of the pages that are mapped to it. The index of a page
+/// (`place`) counts the pages of all owners from 1, owner after owner.
 ///
-/// It is a sum, because while deltas are undone two pages may map one frame.
+/// It is a sum, because two pages may be mapped to one frame while deltas are undone.
 #[derive(Drop)]
 pub(crate) struct PlaceSums {
     sums: Vec<u64>,
@@ -56,7 +57,7 @@ impl PlaceSums {
         self.sums[frame.0 as usize]
     }
 
-    /// Adds a page's place to the sum of the frame that it gets, if any.
+    /// Adds a page's index to the sum of the frame that the page gets, if any.
     pub(crate) fn join(&mut self, frame: Option<Frame>, place: u64)
         requires { IfSome frame (CanJoin self.old place) }
         ensures { self.new ≡ joined self.old frame place }
@@ -66,7 +67,7 @@ impl PlaceSums {
         }
     }
 
-    /// Subtracts a page's place from the sum of the frame that it leaves, if any.
+    /// Subtracts a page's index from the sum of the frame that the page leaves, if any.
     pub(crate) fn leave(&mut self, frame: Option<Frame>, place: u64)
         requires { IfSome frame (CanLeave self.old place) }
         ensures { self.new ≡ left self.old frame place }

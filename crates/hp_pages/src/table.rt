@@ -214,7 +214,7 @@ impl Table {
         self.sums.lowest(first, first + count)
     }
 
-    /// Returns the place of a page, counted from 1.
+    /// Returns the index of a page among the pages of all owners, counted from 1.
     fn place(&self, owner: Owner, page: Page) -> u64
         requires owner { owner < length self.now.rows }
         requires page { page < self.now.pages }

@@ -45,7 +45,7 @@ fault_of_line (Lab fault) line = part.Lab fault
 abbrev pub IsOwnHead : SearchValue → (text : List ℕ) → (number ends : ℕ) → Type 0
 IsOwnHead s text number ends = IsNumber s number × (text ≡ head_line s number ends)
 
--- `text` is a head, but of no part of the search
+-- `text` is a head, but not byte for byte the head of a part of the search
 abbrev pub IsOtherHead : SearchValue → (text : List ℕ) → Type 0
 IsOtherHead s text =
     (number : ℕ) × (ends : ℕ) × IsLine text (Head number ends) × (IsOwnHead s text number ends → ⊥)

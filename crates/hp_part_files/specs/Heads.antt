@@ -89,7 +89,7 @@ head_from d = do
   scenario ← text_at (codes "scenario") d
   head_with number of calls setup ends scenario
 
--- the text is a head: its JSON has one, and the search writes this head byte for byte like the text
+-- the text is this head: its JSON has the head, and the text is byte for byte as the search writes it
 abbrev pub IsHead : (text : List ℕ) → HeadValue → Type 0
 IsHead text h =
     (option_and_then head_from (json_of text) ≡ Some h) × (text ≡ head_line h.search h.number h.ends)

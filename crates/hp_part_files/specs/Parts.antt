@@ -21,10 +21,11 @@ use Rattle.hp_schedules.specs.PartNumbers.{NumberValue, part_by}
 use Rattle.hp_part_files.specs.Heads.{SearchValue}
 use Rattle.hp_part_files.specs.Texts.{part_text}
 
--- with None, the ends count all complete schedules of the part, and there are at most `limit` of
--- these. No schedule in the part's search fills the history. With `known`, the ends count only the
--- part's first schedules. Either `limit` schedules are counted, or the watch has ended the search.
--- `known` is the number of complete schedules of all parts, as far as it is known before any call
+-- with None as the last argument, the ends count all complete schedules of the part, and there
+-- are at most `limit` of these. No schedule in the part's search fills the history. With `known`,
+-- the ends count only the part's first schedules. Either `limit` schedules are counted, or the
+-- watch has ended the search. `known` is the number of complete schedules of all parts, as far as
+-- it is known before any call
 abbrev pub ArePartEnds : Setting → PartValue → (limit : ℕ) → (ended : Type 0) → List Ending → Option HowMany
     → Type 0
 ArePartEnds g part limit ended ends None =

@@ -15,9 +15,9 @@ use Rattle.hp_part_files.specs.Heads.{HeadValue, SearchValue}
 use Rattle.hp_part_files.specs.Faults.{BeginsWith}
 use Rattle.hp_part_files.specs.Gathered.{IsGathered}
 
--- the ends are the sum of the lists, sorted by their first schedules (see Adding of hp_explore),
--- and no two have the same outcome. If the lists have the ends of all parts of a search, the sum
--- has the ends of the whole search
+-- the ends are the sum of the lists, sorted by their first schedules (see Adding of hp_explore), and no
+-- two have the same outcome. If there is a list, and the lists have the ends of all parts of a search,
+-- the sum has the ends of the whole search
 pub record IsSum (lists : List (List Ending)) (ends : List Ending) : Type 0 where
   pub are : (g : Setting) (calls : ℕ) → 0 < length lists → AreParts g calls lists → AreEnds g ends
   pub ordered : (g : Setting) (calls : ℕ) → 0 < length lists → AreParts g calls lists → AreInOrder ends

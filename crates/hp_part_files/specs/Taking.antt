@@ -26,7 +26,7 @@ pub record IsPushed (names : List (List ℕ)) (g : Setting) (old : GatheringValu
         named = old.named;
       }
 
--- the first `start` bytes are the head of a part, with its newline
+-- the first `start` bytes of the input are this head and its newline, and the search has the head's part
 abbrev pub HasRead : (names : List (List ℕ)) → Setting → HeadValue → (input : List ℕ) → (start : ℕ) → Type 0
 HasRead names g h input start =
     (start ≤ length input)

@@ -33,8 +33,8 @@ begun_lines names g s number named ends = head_line s number named ++ newline ++
 abbrev pub part_lines : (names : List (List ℕ)) → Setting → SearchValue → (number : ℕ) → List Ending → List ℕ
 part_lines names g s number ends = begun_lines names g s number (length ends) ends
 
--- a part's head and ends. If not all interleavings were counted, then an object with the number
--- that were and the number of all
+-- a part's head and ends. If not all interleavings were counted, an object follows with the number of
+-- those that were, and the number of all (`null` if it is not known)
 abbrev pub part_text : (names : List (List ℕ)) → Setting → SearchValue → (number : ℕ) → List Ending
     → Option HowMany → List ℕ
 part_text names g s number ends more =

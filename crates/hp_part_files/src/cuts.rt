@@ -4,7 +4,7 @@ ghost use Rattle.hp_part_files.specs.Cuts.{HasNoNewline, IsLineAt, line_number};
 
 use memchr::memchr;
 
-/// Returns the text from `place` up to the next newline, or `None` if there is no newline.
+/// Returns the text from index `place` up to the next newline, or `None` if none follows.
 pub fn line_at(input: &[u8], place: usize) -> Option<&[u8]>
     requires { place ≤ length input.now }
     ensures is { IfSome result (λ text. IsLineAt input.now place text.now) }
@@ -18,8 +18,8 @@ pub fn line_at(input: &[u8], place: usize) -> Option<&[u8]>
     }
 }
 
-/// Returns the number, from 1, of the line at `place`. Counts all newlines before it, so use it
-/// only for messages.
+/// Returns the number, counted from 1, of the line at index `place`. Counts all newlines before it,
+/// so use it only for messages.
 pub fn line_number(input: &[u8], place: usize) -> u64
     requires { place ≤ length input.now }
     ensures { result ≡ line_number input.now place }

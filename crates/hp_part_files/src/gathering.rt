@@ -61,7 +61,8 @@ impl Model for Gathering {
 }
 
 impl Gathering {
-    /// Creates the value for part `number`, whose head names `named` ends, before any end is read.
+    /// Creates the value when only the head of part `number` has been read. This head gives `named`
+    /// as the part's number of ends.
     pub fn new(alloc: Global, number: u32, named: u64) -> Gathering
         ensures { result ≡ record {
           done = [];
@@ -99,7 +100,8 @@ impl Gathering {
         self.named == self.ends.len() as u64
     }
 
-    /// Begins part `number`, whose head names `named` ends. If this fails, nothing changes.
+    /// Begins part `number`, whose head gives `named` as its number of ends. If
+    /// this fails, nothing changes.
     pub fn begin(&mut self, alloc: Global, number: u32, named: u64) -> Result<(), AllocError>
         ensures ok { OnOk result (self.new ≡ record {
           done = self.old.done ++ self.old.last ∷ [];

@@ -8,9 +8,9 @@ use std::alloc::AllocError;
 /// Why a line is refused, given the lines before it.
 #[derive(Drop)]
 pub(crate) enum LineFault {
-    /// The line is not a line of a part.
+    /// The line cannot be read as a line of a part.
     NotPart,
-    /// The line is a head, but not of a part of this search.
+    /// The line is a head, but not byte for byte the head of a part of this search.
     OtherSearch,
     /// The processors in the line are not a complete interleaving of the part.
     NotOfPart,

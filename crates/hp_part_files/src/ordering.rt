@@ -7,7 +7,7 @@ use crate::gathering::PartEnds;
 use hp_schedules::Ending;
 use std::alloc::{AllocError, Global};
 
-/// What is wrong if a part is missing or comes twice. Parts are counted from 1.
+/// Why the parts cannot be put in order. Parts are counted from 1.
 #[derive(Clone, Copy, Drop)]
 pub enum OrderFault {
     /// A part is missing.
@@ -62,7 +62,7 @@ fn sorted(parts: Vec<PartEnds>) -> Result<Vec<PartEnds>, AllocError>
     Ok(ordered)
 }
 
-/// Checks that sorted parts have each number once.
+/// Checks that sorted parts have each number from 1 to `of` once.
 fn check_numbers(parts: &[PartEnds], of: u32) -> Result<(), OrderFault>
     requires within { AreWithin of parts.now }
     requires rising { AreRising parts.now }

@@ -34,8 +34,9 @@ use std::alloc::Global;
 /// # Errors
 ///
 /// - `NotPart`, `OtherSearch`, `NotOfPart`, `Changed` or `Stopped` with the number of the first
-///   line at fault, counted from 1. The line belongs to no part, is a head of another search, has
-///   no complete interleaving of its part, was changed, or reports that its part was stopped.
+///   line at fault, counted from 1. The line belongs to no part or has no newline, is a head that
+///   this search does not write, has no complete interleaving of its part, was changed, or reports
+///   that its part was stopped. An empty input has the fault `NotPart` with line 1.
 /// - `HistoryFull` if the history has no room for a call of the schedule in the first line at
 ///   fault.
 /// - `OtherCount` with the number, from 1, of a part that has fewer or more ends than its head
@@ -174,8 +175,8 @@ fn summed(alloc: Global, lists: &[Vec<Ending>]) -> Result<Vec<Ending>, PartFault
     }
 }
 
-/// Returns the text of all ends in `form`. Fails as if out of memory if the history has no room for
-/// the calls of a schedule.
+/// Returns the text of all ends in `form`. If the history has no room for the calls of a schedule,
+/// fails as if memory ran out.
 fn told(
     alloc: Global,
     prepared: &Prepared,

@@ -86,7 +86,8 @@ fn take_line(
     }
 }
 
-/// Takes a line that is a head of part `number` and names `ends` ends, and begins this part.
+/// Takes `text`, a head that gives `number` as its part and `ends` as its number of ends,
+/// and begins this part.
 fn take_head(
     alloc: Global,
     search: &Search<'_>,
@@ -198,8 +199,8 @@ fn push_end(
     Ok(())
 }
 
-/// Returns whether `text` is the line of end `number`. Fails as if out of memory if the history has
-/// no room for a call of the end's schedule.
+/// Returns whether `text` is the line of end `number`. If the history has no room for a call of the
+/// end's schedule, fails as if memory ran out.
 fn is_end(
     alloc: Global,
     prepared: &Prepared,

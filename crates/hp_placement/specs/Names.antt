@@ -1,4 +1,5 @@
--- Short names for the variants of the rows' enums, re-exported from one place. Declares nothing.
+-- Exports again, from one place, types and variants of rows. Some variants are renamed, such as
+-- `Normal` to `NormalZone`. Declares nothing.
 pub use Rattle.hp_units.specs.declared.rows.Class.{Class}
 pub use Rattle.hp_units.specs.declared.rows.Class.TheVariants.{IsoM, IsoN, Mm, Nm, Nu}
 pub use Rattle.hp_units.specs.declared.rows.Kind.{Kind}

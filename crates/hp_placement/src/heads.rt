@@ -1,4 +1,4 @@
-//! The test that no free block's buddy is free too.
+//! The test that no free block has its buddy on the same list.
 ghost use Rattle.std.specs.Prelude.{◌≡◌, ◌<◌, ◌≤◌, IfOk, MatchBool, true, if◌then◌else◌, length, slice_index_or, ℕ, ◌↔◌};
 ghost use Rattle.hp_units.specs.Arithmetic.{frame_count};
 ghost use Rattle.hp_units.specs.FreeAreas.{is_on};
@@ -8,8 +8,8 @@ use hp_units::{Frame, Layout, Order, buddy};
 use std::alloc::{AllocError, Global};
 use std::marker::Model;
 
-/// For each frame, the number of the list that was set last of those with a free block that starts
-/// there, or 0 if none was set.
+/// For each frame, the number of a list with a free block that starts there: of such lists, the one
+/// that was set last. 0 if none was set.
 #[derive(Drop)]
 pub struct Heads {
     frames: Vec<u8>,
@@ -46,7 +46,7 @@ impl Heads {
     }
 
     /// Returns whether no block of a list has its buddy on the list. The first frames of the list's
-    /// blocks must be set to `number`.
+    /// blocks must be set to `number`, and no other frame.
     pub fn is_joined(&self, frames: &[Frame], order: Order, number: u8) -> bool
         requires order { order ≤ 10 }
         requires heads { (frame : ℕ) → (slice_index_or self.now frame 0 ≡ number)

@@ -1,4 +1,4 @@
--- What a contract sees of an Image, and the effect of setting one part of it.
+-- The value of an Image in contracts, and the effect of setting one part of it.
 use Rattle.std.specs.Prelude.{◌+◌, ◌^◌, ◌<◌, ◌≤◌, ◌≡◌, [], ◌∷◌, ◌++◌, Some, length}
 use Rattle.hp_units.specs.LayoutParts.{LayoutParts}
 use Rattle.hp_units.specs.Arithmetic.{IsFrame, frame_count, pageblock_count}

@@ -1,4 +1,5 @@
--- Short names for the variants of the rows' enums, re-exported from one place. Declares nothing.
+-- Exports again, from one place, types and variants of rows. Some variants are renamed, such as
+-- `Nu` to `NuPool`. Declares nothing.
 pub use Rattle.hp_units.specs.declared.rows.Boot.TheVariants.{Offline as OfflineBoot, Absent as AbsentBoot}
 pub use Rattle.hp_units.specs.declared.rows.Boot.{Boot}
 pub use Rattle.hp_units.specs.declared.rows.Class.{Class}

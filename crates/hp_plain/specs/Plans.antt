@@ -1,4 +1,4 @@
--- The blocks that a plan names.
+-- The blocks that a plan names, and some of a plan's refusals.
 use Rattle.std.specs.Prelude.{ℕ, Bool, not, ◌&&◌, List, [], ◌∷◌, Option, find, map, nat_le}
 use Rattle.std.specs.List.{list_any}
 use Rattle.std.specs.Option.{option_map}

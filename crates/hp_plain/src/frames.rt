@@ -91,8 +91,8 @@ impl FreeFrames {
 
     /// Adds all pageblocks of a memory block as movable free blocks of the greatest order, at the
     /// back of the zone's list (Linux, memory hotplug: onlining). They come in rising order, which
-    /// is this model's choice. The block's number must be below the layout's. If memory runs out,
-    /// some pageblocks may have been added.
+    /// is this model's choice. The memory block must be in the layout. If memory runs out, some
+    /// pageblocks may have been added.
     pub(crate) fn add_block(
         &mut self,
         layout: &Layout,

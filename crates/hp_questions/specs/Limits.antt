@@ -38,7 +38,7 @@ abbrev pub IsPatternPast : LayoutParts → Pattern → Type 0
 IsPatternPast l (Exactly reply) = IsReplyPast l reply
 IsPatternPast l (AnyOf refusal) = ⊥
 
--- either the layout has no such processor, or the pattern names something outside the layout
+-- either the layout has no processor `cpu`, or the pattern names something outside the layout
 abbrev pub IsAnswerPast : LayoutParts → (cpu : ℕ) → Pattern → Type 0
 IsAnswerPast l cpu reply = (l.cpus ≤ cpu) ⊎ IsPatternPast l reply
 
@@ -48,8 +48,8 @@ IsEndPast l (RefusedAs refusal) = IsPatternPast l refusal
 IsEndPast l (CancelledAs (Some refusal) restored) = IsPatternPast l refusal
 IsEndPast l end = ⊥
 
--- the pattern for the end of a plan names something outside the layout, or the layout has no such
--- processor, if one is named
+-- either `cpu` names a processor that the layout does not have, or the pattern for the end of a plan
+-- names something outside the layout
 abbrev pub IsPlanPast : LayoutParts → (cpu : Option ℕ) → EndPattern → Type 0
 IsPlanPast l None end = IsEndPast l end
 IsPlanPast l (Some cpu) end = (l.cpus ≤ cpu) ⊎ IsEndPast l end

@@ -32,7 +32,8 @@ leaves_plans line = true
 abbrev pub asks_no_plans : List Wanted → Bool
 asks_no_plans wanted = list_all (λ one. leaves_plans (line_of one)) wanted
 
--- a reply so far matches the line, so that every later end has the line
+-- a reply so far matches the line, so that every later end has the line. No reply matches a line about a
+-- plan or a memory block
 abbrev pub HasReplySoFar : (processors : ℕ) → List Record → EndLine → Type 0
 HasReplySoFar processors news (Plan cpu end) = ⊥
 HasReplySoFar processors news (Block block row) = ⊥
@@ -57,8 +58,9 @@ AreMet cpus scripts wanted processors news lines met =
     → (n : ℕ) × (slice_get met k ≡ Some n)
     × ((n ≡ 1) ↔ HasLineSoFar cpus scripts processors news (line_of one)) × ((n ≡ 0) ⊎ (n ≡ 1)))
 
--- the marks of a place: each processor's number of replies, and then, for each wanted line, 1 if
--- the records have the line so far, else 0. This is also so for a line that an end is to lack
+-- the marks of the place in a search to which the records lead: each processor's number of replies,
+-- and then, for each wanted line, 1 if the records have the line so far, else 0. This is also so for a
+-- line that an end is to lack
 pub record AreMarks (cpus : ℕ) (scripts : List (List Step)) (wanted : List Wanted) (processors : ℕ)
     (news : List Record) (marks : List ℕ) : Type 0 where
   pub many : length marks ≡ processors + length wanted
@@ -67,7 +69,7 @@ pub record AreMarks (cpus : ℕ) (scripts : List (List Step)) (wanted : List Wan
       → (n : ℕ) × (slice_get marks (processors + k) ≡ Some n)
       × ((n ≡ 1) ↔ HasLineSoFar cpus scripts processors news (line_of one)) × ((n ≡ 0) ⊎ (n ≡ 1))
 
--- the records `more` make the same plans end in the same way after `first` and after `second`
+-- for each script, the records `more` add the same ends of plans after `first` and after `second`
 abbrev pub PlansGoOn : (cpus : ℕ) → (scripts : List (List Step)) → (processors : ℕ)
     → (first second more : List Record) → Type 0
 PlansGoOn cpus scripts processors first second more =
@@ -77,7 +79,7 @@ PlansGoOn cpus scripts processors first second more =
     × (plan_ends_of cpus scripts (replies_below processors (second ++ more)) cpu
     ≡ plan_ends_of cpus scripts (replies_below processors second) cpu ++ later)
 
--- the line wants a processor's reply with a certain number, and that reply does not match
+-- the line is about a processor's n-th reply, and this reply has come and does not match
 abbrev pub IsMissed : List Record → EndLine → Type 0
 IsMissed news (Answer cpu reply) = ⊥
 IsMissed news (AnswerAt cpu earlier reply) =

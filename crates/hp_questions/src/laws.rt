@@ -7,8 +7,9 @@ ghost use Rattle.hp_schedules.specs.Outcomes.{replies_to};
 ghost use Rattle.hp_schedules.specs.Schedules.{Setting, plays};
 ghost use Rattle.hp_schedules.specs.declared.scripts.Step.{Step};
 
-/// The ends of plans that are computed from the replies to a processor are the ends of plans among
-/// the answers to its lines. This holds after every schedule, complete or not.
+/// If the ends of a processor's plans are computed from its script and the replies to it,
+/// they are the ends of plans among the answers to its lines. This holds after every
+/// schedule, complete or not.
 pub fn plan_ends_are_answers()
     ensures { (g : Setting) (schedule : List ℕ) (news : List Record) (cpu : ℕ) (lines : List Step)
         → plays g schedule ≡ Some news → slice_get g.scripts cpu ≡ Some lines

@@ -1,14 +1,13 @@
 //! What a search looks for: the lines that an end is to have or to lack.
 //!
-//! Such a line is a reply to a processor, the answer to one of its lines, how one of its plans
-//! ended, or the state of a memory block, as an end is printed. The crate parses, matches and checks
-//! these lines. Before the end of a schedule, it returns which of them are met so far, and whether
-//! the others can still be met. It searches nothing: hp_explore does, and hp_search writes what it
-//! finds.
+//! Such a line is about a reply to a processor, the end of one of its plans, or the state of a
+//! memory block. The crate parses, matches and checks these lines. Before the end of a schedule, it
+//! returns which of them the records have so far. It may also find that no later end can meet them
+//! all. It searches nothing: hp_explore does, and hp_search writes what was found.
 //!
 //! An end has each processor's replies, but not the calls that got them. How plans ended follows
-//! from a processor's script and its replies (`plan_ends`). It is proved to be what `hotplug run`
-//! prints (`laws`).
+//! from a processor's script and its replies (`plan_ends`). It is proved that these are the ends of
+//! plans among the answers to the processor's lines (`laws`).
 //!
 //! Read specs/Patterns, specs/PlanEnds, specs/PlanLines and specs/Wanted first, then specs/Marks,
 //! specs/Limits and specs/WantedLines.

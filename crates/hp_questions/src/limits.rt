@@ -21,8 +21,8 @@ pub fn first_past(wanted: &[Wanted], layout: &Layout) -> Option<u64>
 }
 
 impl Wanted {
-    /// Returns whether the line that an end must or must not have names something outside the
-    /// layout.
+    /// Returns whether the line, which an end is to have or to lack, names
+    /// something outside the layout.
     fn is_past(&self, layout: &Layout) -> bool
         ensures { IsTrue result ↔ IsPast layout.now self.now }
     {
@@ -55,8 +55,8 @@ impl EndLine {
     }
 }
 
-/// Returns whether the layout has no such processor, or the pattern names something outside the
-/// layout.
+/// Returns whether the layout has no processor `cpu`, or the pattern names
+/// something outside the layout.
 fn is_answer_past(cpu: Cpu, reply: &Pattern, layout: &Layout) -> bool
     ensures { IsTrue result ↔ IsAnswerPast layout.now cpu reply.now }
 {

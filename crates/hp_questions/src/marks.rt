@@ -11,14 +11,16 @@ use hp_schedules::{CallScript, all_answers};
 use hp_units::{Cpu, Record, Reply, Serial};
 use std::alloc::{AllocError, Global};
 
-/// Appends the marks of the place in a search that these records lead to. For each processor, the
-/// mark is its number of replies. For each wanted line, it is 1 if the records have the line so
-/// far, else 0; this is also so for a line that an end must not have. A line about a memory block
-/// always gets 0. Returns whether each number fits 32 bits. If not, `numbers` holds only some.
+/// Appends the marks of the place in a search to which these records lead. For each processor below
+/// `processors`, the mark is its number of replies. For each wanted line, it is 1 if the records
+/// have the line so far, else 0; this is also so for a line that an end must not have. A line about
+/// a memory block always gets 0. Returns whether each number of replies fits 32 bits. If not,
+/// `numbers` gets only some of the marks.
 ///
-/// Two places with the same marks can be merged. If the same further calls get the same replies
+/// Suppose that two places have the same marks. If the same further calls get the same replies
 /// after both, further plans end alike, and the rows at the end are equal, then both ends meet the
-/// same wanted lines. Allocates only for `numbers` and for lines about plans.
+/// same wanted lines. So such places can be merged. Allocates only for `numbers` and for lines
+/// about plans.
 pub fn push_marks(
     alloc: Global,
     wanted: &[Wanted],
@@ -51,9 +53,9 @@ pub fn asks_no_plans(wanted: &[Wanted]) -> bool
     true
 }
 
-/// Returns `true` only if no later end can meet all wanted lines. Either a processor's n-th reply
-/// is wanted and does not match, or a reply has come that an end must not have. `false` promises
-/// nothing, because the ends of plans and the rows of memory blocks are not looked at.
+/// Returns `true` only if no later end can meet all wanted lines: either a processor's n-th reply
+/// has come and is not the wanted one, or a reply has come that an end must not have. `false`
+/// promises nothing, because the ends of plans and the rows of memory blocks are not looked at.
 pub fn is_lost(wanted: &[Wanted], processors: u32, records: &[Record]) -> bool
     ensures { IsTrue result → (cpus : ℕ) (scripts : List (List Step))
         → IsLost cpus scripts wanted.now processors records.now }
@@ -125,8 +127,8 @@ fn is_ruled_out(one: &Wanted, processors: u32, records: &[Record]) -> bool
     }
 }
 
-/// Returns `true` only if the line wants the reply with a certain number of a processor, and this
-/// reply has come and does not match.
+/// Returns `true` only if the line is about a processor's n-th reply, and this reply has come and
+/// does not match.
 fn is_missed(line: &EndLine, records: &[Record]) -> bool
     ensures { IsTrue result → IsMissed records.now line.now }
 {
@@ -205,7 +207,7 @@ fn is_answered(reply: &Pattern, cpu: Option<Cpu>, processors: u32, records: &[Re
     }
 }
 
-/// Returns whether the reply to this processor after `earlier` others matches.
+/// Returns whether this processor's reply after `earlier` others has come and matches.
 fn is_answered_at(
     reply: &Pattern,
     cpu: Cpu,
@@ -252,7 +254,7 @@ fn is_told(reply: &Pattern, cpu: Cpu, records: &[Record]) -> bool
     false
 }
 
-/// Returns the reply to the processor after `earlier` others, if it has come.
+/// Returns the processor's reply after `earlier` others, if it has come.
 fn reply_at(cpu: Cpu, earlier: u64, records: &[Record]) -> Option<Reply>
     ensures { result ≡ slice_get (replies_to cpu records.now) earlier }
 {

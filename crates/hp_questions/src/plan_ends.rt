@@ -8,7 +8,8 @@ use std::alloc::{AllocError, Global};
 use std::marker::Model;
 use std::slice;
 
-/// The ends of one processor's finished plans, in the order of its lines. A contract sees a list.
+/// The ends of one processor's finished plans, in the order of its lines. In contracts, its value
+/// is the list of these ends.
 #[derive(Drop)]
 pub struct PlanEnds {
     ends: Vec<OpEnd>,

@@ -10,7 +10,8 @@ use crate::wanted_lines::split_words;
 use hp_units::{Cpu, number32};
 use std::alloc::{AllocError, Global};
 
-/// Parses the end of a plan of one processor from the three parts between colons.
+/// Parses a line such as `0: plan: done`, which is split at its colons into a processor, `plan` and
+/// the plan's end.
 #[tactic(auto, unfolding(crate::specs::WantedLines::own_plan))]
 pub(crate) fn own_plan_line(
     alloc: Global,
@@ -29,8 +30,8 @@ pub(crate) fn own_plan_line(
     }
 }
 
-/// Parses the end of a plan of this processor, or of any if `cpu` is `None`, from the text after
-/// the last colon.
+/// Parses the text after the last colon as the end of a plan of processor `cpu`, or of any
+/// processor if `cpu` is `None`.
 #[tactic(auto, unfolding(crate::specs::WantedLines::plan_line))]
 pub(crate) fn plan_line(
     alloc: Global,
@@ -55,8 +56,8 @@ fn plan_from(cpu: Option<Cpu>, words: &[&str]) -> Option<EndLine>
     }
 }
 
-/// Parses the end of a plan after a colon. The first word is empty, since a space follows the
-/// colon.
+/// Parses the words after a colon as the end of a plan. The first word must be empty, since a
+/// space follows the colon.
 #[tactic(auto, unfolding(crate::specs::WantedLines::end_after_space))]
 fn end_after_space(words: &[&str]) -> Option<EndPattern>
     ensures { result ≡ says.end_after_space (map (λ w. w.now) words.now) }

@@ -20,23 +20,24 @@ pub enum Pattern {
 /// A line of an end.
 #[derive(Clone, Copy, PartialEq, Eq, Drop)]
 pub enum EndLine {
-    /// A reply to this processor matches; a reply to any processor, if `cpu` is `None`.
+    /// A reply to processor `cpu` matches. If `cpu` is `None`, a reply to any processor counts.
     Answer {
         cpu: Option<Cpu>,
         reply: Pattern,
     },
-    /// The reply to this processor after `earlier` others matches.
+    /// This processor's reply after `earlier` others matches.
     AnswerAt {
         cpu: Cpu,
         earlier: u64,
         reply: Pattern,
     },
-    /// A plan of this processor ended as wanted; a plan of any processor, if `cpu` is `None`.
+    /// A plan of processor `cpu` ended as wanted. If `cpu` is `None`, a plan of
+    /// any processor counts.
     Plan {
         cpu: Option<Cpu>,
         end: EndPattern,
     },
-    /// The memory block has this row at the end. The row of an end never names an operation.
+    /// The memory block has this row at the end. The rows of an end have no claims.
     Block {
         block: Block,
         row: Row,
@@ -149,8 +150,7 @@ impl EndLine {
 }
 
 impl Wanted {
-    /// Returns whether the end meets the wanted line: it has the line, or it does not have the line
-    /// that it must not have.
+    /// Returns whether the end meets the wanted line: it either has or lacks the line, as wanted.
     fn is_met_by(
         &self,
         alloc: Global,

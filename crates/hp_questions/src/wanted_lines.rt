@@ -13,7 +13,7 @@ use crate::wanted::{EndLine, Pattern, Wanted};
 use hp_units::{Cpu, number32, number64};
 use std::alloc::{AllocError, Global};
 
-/// Parses a line as `explore` prints it, or returns `None` if no end can have the text as a line.
+/// Parses a wanted line. Returns `None` for a text that cannot be read as one.
 ///
 /// A line is a reply to any processor, such as `refused NotFree 3`; a reply to one processor, such
 /// as `0: done`; the n-th reply to one processor, such as `cpu 0 answer 2: done`; the end of a plan
@@ -109,7 +109,8 @@ fn lone_line(alloc: Global, text: &str) -> Result<Option<EndLine>, AllocError>
     Ok(line_from(words.as_slice()))
 }
 
-/// Parses what is before a colon, which names a processor, and the reply after it.
+/// Parses a wanted reply. `who`, the text before the colon, names a processor or one of its
+/// replies; `rest` is the text after the colon.
 fn answer_line(alloc: Global, who: &str, rest: &str) -> Result<Option<EndLine>, AllocError>
     ensures { IfOk result (λ line. line ≡ says.answer_of (words_of who.now) (words_of rest.now)) }
 {
@@ -162,7 +163,8 @@ fn answer_from(who: &[&str], reply: &[&str]) -> Option<EndLine>
     }
 }
 
-/// Parses the reply after a colon. The first word is empty, since a space follows the colon.
+/// Parses the words after a colon as a reply. The first word must be empty, since a
+/// space follows the colon.
 #[tactic(auto, unfolding(crate::specs::WantedLines::reply_after_space))]
 fn reply_after_space(words: &[&str]) -> Option<Pattern>
     ensures { result ≡ says.reply_after_space (map (λ w. w.now) words.now) }
@@ -212,8 +214,7 @@ fn named_answer(
     }
 }
 
-/// Parses the number of a processor, and returns the wanted line that it gets the reply at any
-/// time.
+/// Parses the number of a processor. Returns the wanted line for any reply to this processor.
 fn some_answer(cpu: &str, reply: Pattern) -> Option<EndLine>
     ensures { result ≡ option_map (λ c. Answer (Some c) reply) (number_of 32 cpu.now) }
 {

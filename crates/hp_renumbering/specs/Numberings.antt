@@ -8,8 +8,8 @@ abbrev pub index_of : (op : ℕ) → List ℕ → Option ℕ
 index_of op [] = None
 index_of op (x ∷ xs) = if x == op then Some 0 else option_map suc (index_of op xs)
 
--- the processor whose latest operation this is. An operation up to `fixed` has none, because scripts
--- may name it by its number
+-- the processor whose latest operation is `op`, if there is one. There is none for an operation up to
+-- `fixed`, because scripts may name it by its number
 abbrev pub place_of : (fixed : ℕ) → (latest : List ℕ) → (op : ℕ) → Option ℕ
 place_of fixed latest op = if nat_le op fixed then None else index_of op latest
 

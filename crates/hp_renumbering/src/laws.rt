@@ -10,8 +10,9 @@ ghost use Rattle.hp_renumbering.specs.Renumbered.{IsOneToOne, renumbered, renumb
 /// serial of a step, and the operations in its state and its event. Then the same function
 /// renumbers the operations in the new state and the reply, and nothing else changes.
 ///
-/// So two steps have the same reply if their states and events become equal, and their common
-/// serial gets the same number, when one-to-one functions renumber the operations.
+/// So take two steps with the same serial and the same processor, and a one-to-one function for
+/// each. If the functions make the states and the events of the steps equal, and give the serial
+/// the same number, then both steps have the same reply.
 pub fn steps_are_renumbered()
     ensures step { (f : ℕ → ℕ) (l : LayoutParts) (s : Memory) (serial cpu : ℕ) (e : Event) → IsOneToOne f
         → step l (renumbered f s) (f serial) cpu (renumbered_event f e)

@@ -12,25 +12,25 @@ use Rattle.hp_replays.specs.declared.replaying.ReplayFault.TheVariants.{WrongRep
 use Rattle.hp_replays.specs.declared.chains.ChainFault.{ChainFault}
 use Rattle.hp_replays.specs.declared.chains.ChainFault.TheVariants.{WrongCount, WrongBase, Replay, OutOfMemory}
 
--- the volume is at this place, and those before it follow one another
+-- the volume has index `at`, and those before it follow one another
 pub record StandsAfter (l : LayoutParts) (volumes : List Volume) (at : ℕ) (v : Volume) : Type 0 where
   pub here : slice_get volumes at ≡ Some v
   pub chain : IsChain l (take at volumes)
 
--- the volume at this place is the first at fault: its count of earlier records is wrong
+-- the volume with index `at` is the first at fault: its count of earlier records is wrong
 pub record HasWrongCount (l : LayoutParts) (volumes : List Volume) (at : ℕ) (v : Volume) : Type 0 where
   pub first : StandsAfter l volumes at v
   pub count : v.before ≢ records_in (take at volumes)
 
--- the volume at this place is the first at fault: its count of earlier records is right, its base
--- wrong
+-- the volume with index `at` is the first at fault: its count of earlier records is
+-- right, its base wrong
 pub record HasWrongBase (l : LayoutParts) (volumes : List Volume) (at : ℕ) (v : Volume) : Type 0 where
   pub first : StandsAfter l volumes at v
   pub count : v.before ≡ records_in (take at volumes)
   pub base : v.base ≢ pictured l (state_after l (take at volumes))
 
--- the volume at this place is the first at fault: its count of earlier records and its base are
--- right, and its records have this fault
+-- the volume with index `at` is the first at fault: its count of earlier records and its base are
+-- right, and its records have this fault, which is not that memory ran out
 pub record HasWrongRecords (l : LayoutParts) (volumes : List Volume) (at : ℕ) (v : Volume)
     (fault : ReplayFault) : Type 0 where
   pub first : StandsAfter l volumes at v
@@ -39,7 +39,7 @@ pub record HasWrongRecords (l : LayoutParts) (volumes : List Volume) (at : ℕ) 
   pub records : IsFault l (state_after l (take at volumes)) (records_in (take at volumes)) v.records fault
   pub known : fault ≢ ReplayOutOfMemory
 
--- the fault names the first volume at fault
+-- the fault names the first volume at fault; if memory ran out, it claims nothing
 abbrev pub IsChainFault : LayoutParts → List Volume → ChainFault → Type 0
 IsChainFault l volumes (WrongCount at) = (v : Volume) × HasWrongCount l volumes at v
 IsChainFault l volumes (WrongBase at) = (v : Volume) × HasWrongBase l volumes at v
@@ -60,12 +60,13 @@ pub record FollowsEnd (end : CourseValue) (v : Volume) : Type 0 where
   pub count : v.before ≡ end.before
   pub base : v.base ≡ pictured end.layout end.base
 
--- the course after the volume's records, sealed
+-- the course after the volume's records and then a seal
 abbrev pub sealed_after : CourseValue → Volume → CourseValue
 sealed_after end v =
     started end.layout (value_of end.layout end.base v.records) (end.before + length v.records)
 
--- the fault of a volume at this place, if it does not follow a course that was just sealed
+-- the fault of the volume with index `at`: why it does not follow a course that was just sealed. If
+-- memory ran out, this claims nothing
 abbrev pub IsFaultAfter : CourseValue → (at : ℕ) → Volume → ChainFault → Type 0
 IsFaultAfter end at v (WrongCount place) = (place ≡ at) × (v.before ≢ end.before)
 IsFaultAfter end at v (WrongBase place) =
@@ -75,7 +76,7 @@ IsFaultAfter end at v (Replay place fault) =
     × (fault ≢ ReplayOutOfMemory)
 IsFaultAfter end at v OutOfMemory = Unit {0}
 
--- the fault of a volume whose records have this fault
+-- the fault of the volume with index `at`, whose records have this fault
 abbrev pub chain_fault : ℕ → ReplayFault → ChainFault
 chain_fault at (WrongReply serial) = Replay at (WrongReply serial)
 chain_fault at (WrongSerial place) = Replay at (WrongSerial place)

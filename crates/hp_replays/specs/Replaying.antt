@@ -8,19 +8,19 @@ use Rattle.hp_history.specs.Course.{CourseValue, last_serial}
 use Rattle.hp_replays.specs.declared.replaying.ReplayFault.{ReplayFault}
 use Rattle.hp_replays.specs.declared.replaying.ReplayFault.TheVariants.{WrongReply, WrongSerial, OutOfMemory}
 
--- the record is at this place, and those before it are a legal history
+-- the record has index `at`, and those before it are a legal history
 pub record ComesAt (l : LayoutParts) (base : Memory) (before : ℕ) (h : List Record) (at : ℕ)
     (r : Record) : Type 0 where
   pub here : slice_get h at ≡ Some r
   pub legal : IsLegal l base before (take at h)
 
--- the record at this place is the first at fault: its serial is not the next one
+-- the record with index `at` is the first at fault: its serial is not the next one
 pub record HasWrongSerial (l : LayoutParts) (base : Memory) (before : ℕ) (h : List Record) (at : ℕ)
     (r : Record) : Type 0 where
   pub first : ComesAt l base before h at r
   pub serial : r.serial ≢ before + at + 1
 
--- the record at this place is the first at fault: its serial is the next one, but its reply is not
+-- the record with index `at` is the first at fault: its serial is the next one, but its reply is not
 -- the one that the definitions give
 pub record HasWrongReply (l : LayoutParts) (base : Memory) (before : ℕ) (h : List Record) (at : ℕ)
     (r : Record) : Type 0 where
@@ -28,7 +28,8 @@ pub record HasWrongReply (l : LayoutParts) (base : Memory) (before : ℕ) (h : L
   pub serial : r.serial ≡ before + at + 1
   pub reply : r.reply ≢ reply_of l base before (take at h) r.cpu r.event
 
--- the fault names the first record at fault: by its place, from 0, or by its serial
+-- the fault names the first record at fault, by its index or by its serial; if memory ran
+-- out, it claims nothing
 abbrev pub IsFault : LayoutParts → Memory → ℕ → List Record → ReplayFault → Type 0
 IsFault l base before h (WrongSerial at) = (r : Record) × HasWrongSerial l base before h at r
 IsFault l base before h (WrongReply serial) =
@@ -41,7 +42,7 @@ Refutes l base before h (WrongSerial at) = IsLegal l base before h → ⊥
 Refutes l base before h (WrongReply serial) = IsLegal l base before h → ⊥
 Refutes l base before h OutOfMemory = Unit {0}
 
--- the course of records after a base state and earlier records
+-- the course of the legal history `h` over the state `start`, after `earlier` earlier records
 pub record IsCourseOf (l : LayoutParts) (start : Memory) (earlier : ℕ) (h : List Record)
     (c : CourseValue) : Type 0 where
   pub layout : c.layout ≡ l
@@ -51,7 +52,7 @@ pub record IsCourseOf (l : LayoutParts) (start : Memory) (earlier : ℕ) (h : Li
   pub legal : IsLegal l start earlier h
   pub state : c.state ≡ value_of l start h
 
--- the record may come after those of the old course, and the new one is the course with it
+-- the record can follow those of the old course, and the new course is the old one with this record
 pub record IsFollowed (old : CourseValue) (r : Record) (new : CourseValue) : Type 0 where
   pub follows : Follows old.layout old.base old.before old.history r
   pub history : new.history ≡ old.history ++ r ∷ []
@@ -60,8 +61,9 @@ pub record IsFollowed (old : CourseValue) (r : Record) (new : CourseValue) : Typ
   pub before : new.before ≡ old.before
   pub base : new.base ≡ old.base
 
--- the fault of a record at this place after those of a course. Its serial is not the next one, or
--- its reply is not the one that the definitions give
+-- the fault of the record with index `at`, which comes after those of a course: its serial is
+-- not the next one, or its reply is not the one that the definitions give. If memory ran out,
+-- this claims nothing
 abbrev pub IsFaultHere : CourseValue → (at : ℕ) → Record → ReplayFault → Type 0
 IsFaultHere c at r (WrongSerial place) = (place ≡ at) × (r.serial ≢ last_serial c + 1)
 IsFaultHere c at r (WrongReply serial) =

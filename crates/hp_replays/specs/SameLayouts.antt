@@ -2,7 +2,7 @@
 use Rattle.std.specs.Prelude.{ℕ}
 use Rattle.hp_units.specs.LayoutParts.{LayoutParts}
 
--- the sizes of a layout's memory blocks
+-- the number of a layout's memory blocks, and their sizes
 abbrev pub blocks_of : LayoutParts → ℕ × ℕ × ℕ
 blocks_of l = (l.order, l.pageblocks, l.blocks)
 
@@ -10,6 +10,6 @@ blocks_of l = (l.order, l.pageblocks, l.blocks)
 abbrev pub processors_of : LayoutParts → ℕ × ℕ × ℕ
 processors_of l = (l.cpus, l.batch, l.high)
 
--- the sizes of a layout's owners and pages, and its limit of records
+-- a layout's numbers of owners, pages and words, and its limit of records
 abbrev pub owners_of : LayoutParts → ℕ × ℕ × ℕ × ℕ
 owners_of l = (l.owners, l.pages, l.words, l.history)

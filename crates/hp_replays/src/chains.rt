@@ -15,17 +15,16 @@ use hp_units::Layout;
 use std::alloc::{AllocError, Global};
 
 /// Why volumes do not follow one another. Names the first volume at fault, counted from 0; its
-/// count is checked before its base, and its base before its records. `OutOfMemory` may come in
-/// place of any other.
+/// count is checked before its base, and its base before its records. `OutOfMemory` reports nothing
+/// about the volumes, and may come instead of any result.
 #[derive(Clone, Copy, Debug, PartialEq, Eq, Drop)]
 pub enum ChainFault {
-    /// The `before` of the volume at this place is not the number of records in the volumes before
-    /// it.
+    /// The `before` of volume `at` is not the number of records in the volumes before it.
     WrongCount { at: u64 },
-    /// The base of the volume at this place has another layout, or is not the state that the
-    /// volumes before it lead to.
+    /// The base of volume `at` has another layout, or is not the state that the volumes
+    /// before it lead to.
     WrongBase { at: u64 },
-    /// The records of the volume at this place are not a legal history over its base.
+    /// The records of volume `at` are not a legal history over its base.
     Replay { at: u64, fault: ReplayFault },
     /// Out of memory.
     OutOfMemory,
@@ -130,7 +129,7 @@ fn same_image(image: &Image, other: &Image) -> bool
     same_layout(image.layout(), other.layout()) && image.same(other)
 }
 
-/// Returns the fault of a volume whose records are at fault.
+/// Returns the fault of volume `at`, whose records have this fault.
 fn chain_fault(at: u64, fault: ReplayFault) -> ChainFault
     ensures { result ≡ chain_fault at fault }
 {

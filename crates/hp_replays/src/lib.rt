@@ -1,7 +1,7 @@
 //! Replays histories: decides whether records are a legal history, and whether sealed volumes
 //! follow one another.
 //!
-//! The crate owns both results and their faults. A journal replies to the events of the records
+//! The crate owns both decisions and their faults. A journal replies to the events of the records
 //! again, and each reply is compared with the record's. The crate keeps no history and knows
 //! nothing of the layers.
 //!

@@ -11,13 +11,14 @@ use hp_plain::Image;
 use hp_units::{Layout, Record, Serial};
 use std::alloc::{AllocError, Global};
 
-/// Why records are not a legal history. Names the first record at fault; its serial is checked
-/// before its reply. `OutOfMemory` may come in place of any other.
+/// Why records are not a legal history. Names the first record at fault; its serial is
+/// checked before its reply. `OutOfMemory` reports nothing about the records, and may come
+/// instead of any result.
 #[derive(Clone, Copy, Debug, PartialEq, Eq, Drop)]
 pub enum ReplayFault {
     /// The record with this serial has another reply than the definitions give.
     WrongReply { serial: Serial },
-    /// The record at this place, counted from 0, does not have the next serial.
+    /// The record with index `at` does not have the next serial.
     WrongSerial { at: u64 },
     /// Out of memory.
     OutOfMemory,
@@ -70,7 +71,8 @@ pub fn replay_from(
     image_after(alloc, &mut journal, records)
 }
 
-/// Returns the state after the records, if they are a legal history over a journal without records.
+/// Replays the records in a journal that has none, and returns the state after them. Fails if they
+/// are not a legal history over its base.
 fn image_after(
     alloc: Global,
     journal: &mut Journal,
@@ -95,7 +97,8 @@ fn image_after(
     Ok(image)
 }
 
-/// Replays the records in a journal without records, if they are a legal history over its base.
+/// Replays the records in a journal that has none. Fails if they are not a legal
+/// history over its base.
 pub(crate) fn followed(
     alloc: Global,
     journal: &mut Journal,
@@ -114,7 +117,7 @@ pub(crate) fn followed(
     Ok(())
 }
 
-/// Replays the record at place `at`, if it may come after those of the journal.
+/// Replays the record with index `at`. Fails if it cannot follow those of the journal.
 fn follow(alloc: Global, journal: &mut Journal, at: u64, next: &Record) -> Result<(), ReplayFault>
     ensures ok { OnOk result (IsFollowed journal.old next.now journal.new) }
     ensures err { IfErr result (IsFaultHere journal.old at next.now) }

@@ -15,7 +15,7 @@ pub(crate) fn same_layout(layout: &Layout, other: &Layout) -> bool
         && same_boot(layout.boot(), other.boot())
 }
 
-/// Returns whether two layouts have the same memory blocks.
+/// Returns whether two layouts have equally many memory blocks, of the same sizes.
 fn same_blocks(layout: &Layout, other: &Layout) -> bool
     ensures { MatchBool result (blocks_of layout.now ≡ blocks_of other.now)
         (blocks_of layout.now ≢ blocks_of other.now) }
@@ -25,7 +25,7 @@ fn same_blocks(layout: &Layout, other: &Layout) -> bool
         && layout.blocks() == other.blocks()
 }
 
-/// Returns whether two layouts have the same processors.
+/// Returns whether two layouts have equally many processors, with lists of the same sizes.
 fn same_processors(layout: &Layout, other: &Layout) -> bool
     ensures { MatchBool result (processors_of layout.now ≡ processors_of other.now)
         (processors_of layout.now ≢ processors_of other.now) }
@@ -35,7 +35,8 @@ fn same_processors(layout: &Layout, other: &Layout) -> bool
         && layout.high() == other.high()
 }
 
-/// Returns whether two layouts have the same owners and the same limit of records.
+/// Returns whether two layouts have equally many owners, pages and words, and the
+/// same limit of records.
 fn same_owners(layout: &Layout, other: &Layout) -> bool
     ensures { MatchBool result (owners_of layout.now ≡ owners_of other.now)
         (owners_of layout.now ≢ owners_of other.now) }

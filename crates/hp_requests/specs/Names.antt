@@ -1,5 +1,6 @@
--- The variants of zones, files and faults under names of their own, exported again from one place.
--- Declares nothing.
+-- Exports again, from one place, the types and variants of zones, wishes, control files and
+-- their faults that this crate uses. Some variants are renamed, such as `Normal` to
+-- `NormalZone`. Declares nothing.
 pub use Rattle.hp_units.specs.declared.rows.Zone.{Zone}
 pub use Rattle.hp_units.specs.declared.rows.Zone.TheVariants.{Normal as NormalZone, Movable as MovableZone}
 pub use Rattle.hp_units.specs.declared.rows.Wish.TheVariants.{Off as OffWish}

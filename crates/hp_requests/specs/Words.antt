@@ -13,7 +13,8 @@ block_named name = if starts_with nat_eq name (codes "memory") then number_of 32
 abbrev pub hex_digit : ℕ → Option ℕ
 hex_digit byte = if nat_lt (digit_value byte) 16 then Some (digit_value byte) else None
 
--- the number that hexadecimal digits write after those of `number`
+-- the number whose hexadecimal digits are those of `number` and then these bytes; None if one is no
+-- digit
 abbrev pub hex_after : ℕ → List ℕ → Option ℕ
 hex_after number [] = Some number
 hex_after number (byte ∷ bytes) =

@@ -41,7 +41,7 @@ block_request block OnlineFile text = online_request block text
 block_request block ZonesFile text = Err ReadOnly
 block_request block RemovableFile text = Err ReadOnly
 
--- the word for what a block becomes when it is added
+-- what a block becomes when it is added, from its word
 unfoldable pub auto_of : List ℕ → Option Auto
 auto_of text =
     if bytes_eq text (codes "offline") then Some OfflineAuto

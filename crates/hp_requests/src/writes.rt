@@ -52,7 +52,8 @@ fn parse_echo(alloc: Global, path: &str, word: &str) -> Result<Request, ControlF
     parse_write(alloc, path, line.as_bytes())
 }
 
-/// Parses `echo WORD` into the control file at `path`: the request, or why the file refuses it.
+/// Returns what an `echo` of `word` to the control file at `path` asks for, or why
+/// the file refuses it.
 pub fn echo_answer(
     alloc: Global,
     path: &str,

@@ -11,8 +11,8 @@ use Rattle.hp_scenario.specs.declared.calls.Next.{Next}
 use Rattle.hp_scenario.specs.declared.calls.Next.TheVariants.{Another, End, Unsure}
 use Rattle.hp_scenario.specs.declared.lines.Line.{Line}
 
--- `old` begins with the tokens of the layout and the beginning of `calls`; `new` are left, from the
--- first line on
+-- `old` begins with the tokens of the layout and the beginning of `calls`; `new` are the tokens after
+-- these, from the first line on
 abbrev pub IsFront : LayoutParts → List Token → List Token → Type 0
 IsFront layout old new =
     (b : List Token) × (old ≡ begin_object ∷ key (codes "layout") ∷ b)
@@ -35,7 +35,7 @@ abbrev pub Ends : Calls → Calls → Type 0
 Ends old new =
     (old.reader ≡ end_array ∷ end_object ∷ []) × (new.names.keys ≡ old.names.keys) × (new.layout ≡ old.layout)
 
--- what came next: a line, or the end; Unsure says nothing
+-- what came next: a line, or the end; Unsure claims nothing
 abbrev pub Goes : Calls → Next → Calls → Type 0
 Goes old (Another line) new = Passes old line new
 Goes old End new = Ends old new

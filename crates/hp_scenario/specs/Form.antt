@@ -55,7 +55,7 @@ each_in f (item d ds) = do
 abbrev pub boot_at : Data → Option Boot
 boot_at d = option_and_then boot_of (as_str d)
 
--- whether a value is a text, and which one
+-- the value is a text; and this text, or an empty one for any other value
 abbrev pub is_text : Value → Bool
 is_text v = is_some (as_str (view v))
 

@@ -30,7 +30,7 @@ event e = plain (work.Event e)
 
 -- ---- words by their kind
 
--- the number below 2^`bits` that the only word is
+-- the only word as a number below 2^`bits`; None for any other word, or if there is not exactly one
 unfoldable pub only_number : (bits : ℕ) → List (List ℕ) → Option ℕ
 only_number bits (word ∷ []) = number_of bits word
 only_number bits _ = None
@@ -42,7 +42,7 @@ zone_of word =
     else (if bytes_eq word (codes "movable") then Some zone.Movable
     else None)
 
--- what a word makes of a memory block
+-- the wish that a word names: what a memory block is to become
 unfoldable pub wish_of : List ℕ → Option Wish
 wish_of word =
     if bytes_eq word (codes "off") then Some wish.Off
@@ -195,6 +195,6 @@ words_say (cpu ∷ rest) = do
   r ← request_of rest
   Some (record { cpu = c; request = r })
 
--- the contents of a text, if it is a line
+-- the contents of a text, if it can be read as a line
 unfoldable pub line_says : List ℕ → Option Said
 line_says text = words_say (words_of text)

@@ -17,7 +17,7 @@ abbrev pub names_with : List (List ℕ) → Request → List (List ℕ)
 names_with names (plain w) = names
 names_with names (named name access) = insert_key bytes_eq names name
 
--- the number of a name: its place among the names, where a new one goes last
+-- the number of a name: its index among the names, or for a new name, how many names there are
 abbrev pub owner_of : List (List ℕ) → List ℕ → ℕ
 owner_of names name = position_or_len (bytes_eq name) names
 

@@ -8,16 +8,16 @@ use Rattle.hp_scenario.specs.declared.plain_reader.Found.{Found}
 use Rattle.hp_scenario.specs.declared.plain_reader.Place.{Place}
 use Rattle.hp_scenario.specs.declared.plain_reader.Place.TheVariants.{Fresh, AfterValue, AfterComma}
 
--- the place, as json's grammar has it
+-- a reader's place, as json's grammar has it
 abbrev pub place_of : Place → json.Place
 place_of Fresh = fresh
 place_of AfterValue = after_value
 place_of AfterComma = after_comma
 
--- the tokens of a text from a place on
+-- the tokens of `text`, for a reader that is at `place`
 abbrev pub tokens_at : Place → List ℕ → List Token
 tokens_at place text = punctuate (place_of place) (lex between text)
 
--- the found token comes first, then the others after it
+-- the tokens are the found one, and then those of the text after it
 abbrev pub IsFound : List Token → Found → Type 0
 IsFound tokens found = tokens ≡ token_of found.token ∷ tokens_at found.place found.rest.now

@@ -30,8 +30,8 @@ AreAllOf lines cpu = (0 < length lines) × (list_all (λ line. line.cpu == cpu) 
 abbrev pub first_unfit : (cpus : ℕ) → List Line → Option ℕ
 first_unfit cpus lines = position (λ line. not (is_for_run cpus line)) lines
 
--- a script per processor, from 0; or, if no worker may run the line at `at`, its number, counted
--- from 1
+-- a script per processor, from 0. With an index `at` (of a line that no worker may run), the result is
+-- the fault with that line's number, which is counted from 1
 abbrev pub scripts_unless : ScenarioValue → Option ℕ → Result (List (List Line)) ScenarioFault
 scripts_unless scenario (Some at) = Err (NotForRun (at + 1))
 scripts_unless scenario None = Ok (map (script_of scenario.lines) (range_with_len 0 scenario.layout.cpus))

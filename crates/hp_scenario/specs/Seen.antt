@@ -1,4 +1,4 @@
--- The values of a scenario and of a line, as a contract sees them.
+-- The values that scenarios and lines have in contracts.
 use Rattle.hp_scenario.specs.Asked as asks
 use Rattle.hp_scenario.specs.Lines as said
 use Rattle.hp_scenario.specs.Scenario.{ScenarioValue}

@@ -1,5 +1,5 @@
--- How each line is spelled: a text is a line if and only if it is the line's `line_text`, and the
--- line can be written.
+-- How each line is spelled: a text is read as a line if and only if it is the line's `line_text`, and
+-- the line can be written.
 use Rattle.std.specs.Prelude.{◌≡◌, ℕ, ◌^◌, ◌<◌, ◌==◌, List, [], ◌∷◌, codes, Bool, true, not, length, Some, ◌↔◌}
 use Rattle.std.specs.Fmt.{decimal}
 use Rattle.std.specs.List.{join_with_byte, list_all}

@@ -24,7 +24,7 @@ pub struct Calls<'a> {
     reader: PlainReader<'a>,
 }
 
-/// What comes next.
+/// What comes next in a scenario.
 #[derive(Drop)]
 pub enum Next {
     /// A line.

@@ -16,8 +16,8 @@ struct Parts {
 }
 
 /// A word that `echo` writes to a control file. What it asks for is computed once, when it is made.
-/// Everything is in one box, so that lines without an echo stay small. A contract sees the path and
-/// the word.
+/// Everything is in one box, so that lines without an echo stay small. In contracts, its value is
+/// the path and the word.
 pub struct Echo {
     parts: Box<Parts>,
 }

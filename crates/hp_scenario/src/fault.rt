@@ -6,7 +6,7 @@ use hp_units::LayoutFault;
 use std::alloc::{AllocError, AllocFailed};
 use thiserror::Error;
 
-/// The first fault of a scenario, in this order. `OutOfMemory` may come in place of any other.
+/// The first fault of a scenario, in this order. `OutOfMemory` may come in place of any result.
 #[derive(Clone, Copy, Debug, Error)]
 pub enum ScenarioFault {
     /// The text is not JSON.
@@ -18,7 +18,7 @@ pub enum ScenarioFault {
     /// The layout is out of its limits.
     #[error("layout fault {0:?}")]
     Layout(LayoutFault),
-    /// A string of `calls` is not a line; lines are counted from 1.
+    /// A string of `calls` cannot be read as a line; lines are counted from 1.
     #[error("line {line} not understood")]
     BadLine { line: u64 },
     /// No worker (a thread of `hotplug run`) may run the line: it reads a control file, or its

@@ -33,7 +33,7 @@ pub struct Line {
 /// The size of a line decides how much memory a long scenario takes.
 const _: () = prove!(size_of::<Line>() <= 40);
 
-/// Lines in order. A contract sees them as a list.
+/// Lines in order. In contracts, their value is a list.
 #[derive(Drop)]
 pub struct Lines {
     lines: Vec<Line>,

@@ -15,7 +15,8 @@ use std::alloc::{AllocError, Global};
 /// Reads a line, given the owners' names of the lines before it. A name that is new becomes the
 /// last.
 ///
-/// Returns `None` if the text is no line. The names are then as before, as they are after an error.
+/// Returns `None` if the text cannot be read as a line. The names are then as before, as they
+/// are after an error.
 pub fn read_line(
     alloc: Global,
     names: &mut IndexSet<Text>,

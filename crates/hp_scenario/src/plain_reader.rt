@@ -49,7 +49,7 @@ pub(crate) struct Found<'a> {
     rest: &'a str,
 }
 
-/// The rest of a text. A contract sees the tokens that are still to come.
+/// The rest of a text. In contracts, its value is the list of the tokens that are still to come.
 #[derive(Drop)]
 pub(crate) struct PlainReader<'a> {
     rest: &'a str,
@@ -130,7 +130,7 @@ fn byte_of(text: &str) -> u8
     if bytes.is_empty() { b' ' } else { bytes[0] }
 }
 
-/// Returns a text without its first byte, which is a character.
+/// Returns a text without its first byte, which must be an ASCII character.
 #[inline(always)]
 #[tactic(auto, using(crate::proofs::PlainTokens::second_is_boundary))]
 fn rest_of<'a>(text: &'a str) -> &'a str

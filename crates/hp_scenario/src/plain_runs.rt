@@ -7,8 +7,8 @@ ghost use Rattle.json.specs.Run.{is_plain, is_stop};
 
 use std::simd::prelude::*;
 
-/// Returns the place of the first quote, backslash or control character from `from` on, or the
-/// length. Looks at 16 bytes per step.
+/// Returns the index of the first quote, backslash or control character from `from` on, or the
+/// length of the text if there is none. Looks at 16 bytes per step.
 #[inline(always)]
 pub(crate) fn plain_end(text: &[u8], from: usize) -> usize
     requires { from ≤ length text.now }
@@ -37,7 +37,7 @@ fn stops(bytes: u8x16) -> u64
         | bytes.simd_lt(u8x16::splat(0x20))).to_bitmask()
 }
 
-/// Returns the same place as `plain_end`, looking at one byte per step. Used for the end of a text.
+/// Returns the same index as `plain_end`, looking at one byte per step. Used for the end of a text.
 #[inline(never)]
 fn plain_end_slowly(text: &[u8], from: usize) -> usize
     requires { from ≤ length text.now }

@@ -48,7 +48,7 @@ pub(crate) fn line_says<'a>(
     words_say(alloc, words)
 }
 
-/// Returns whether a text is a line.
+/// Returns whether a text can be read as a line.
 pub fn is_line(alloc: Global, text: &str) -> Result<bool, AllocError>
     ensures { IfOk result (λ is. is ≡ is_some (says.line_says text.now)) }
 {
@@ -74,7 +74,7 @@ fn words_say<'a>(alloc: Global, words: &[&'a str]) -> Result<Option<Said<'a>>, A
     Ok(Some(Said { cpu, request }))
 }
 
-/// Reads what a line asks for from the words after the processor.
+/// Reads, from the words after the processor, what a line asks for.
 #[tactic(auto, unfolding(crate::specs::Lines::request_of))]
 fn request_from<'a>(alloc: Global, words: &[&'a str]) -> Result<Option<Request<'a>>, AllocError>
     ensures { IfOk result

@@ -23,15 +23,15 @@ use std::alloc::Global;
 pub struct Scenario {
     /// The layout.
     pub layout: Layout,
-    /// The owners' names; an owner's number is its name's place.
+    /// The owners' names; an owner's number is the index of its name.
     pub names: IndexSet<Text>,
     /// The lines in order.
     pub lines: Lines,
 }
 
 impl Scenario {
-    /// Reads a scenario from its bytes. Most forms are read token by token, without a tree of JSON
-    /// values; the others by `read_any`.
+    /// Reads a scenario from its bytes. A scenario in the usual form is read token by token,
+    /// without a tree of JSON values. Other bytes are read by `read_any`.
     pub fn read(alloc: Global, bytes: &[u8]) -> Result<Scenario, ScenarioFault>
         ensures { Gives scenario_seen result (scenario_in bytes.now) }
     {
@@ -127,7 +127,7 @@ pub fn layout_from(alloc: Global, parts: &Parts<'_>) -> Result<Layout, ScenarioF
     }
 }
 
-/// Appends the lines in the texts, and their names.
+/// Adds the lines in the texts, and the names in them. There are no lines and no names yet.
 fn add_lines(
     alloc: Global,
     names: &mut IndexSet<Text>,

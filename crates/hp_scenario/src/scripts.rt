@@ -91,8 +91,8 @@ fn dealt(alloc: Global, lines: Vec<Line>, cpus: u32) -> Result<Vec<Script>, Allo
     }
 }
 
-/// Returns the place of the script that all lines belong to; `None` if they belong to several
-/// processors, and if there are none.
+/// Returns the index of the script to which all lines belong. Returns `None` if they belong to
+/// several processors, or if there are no lines.
 fn only_place(lines: &[Line]) -> Option<usize>
     ensures { IfSome result (AreAllOf lines.now) }
 {
@@ -105,8 +105,8 @@ fn only_place(lines: &[Line]) -> Option<usize>
     Some(place)
 }
 
-/// Returns the scripts if all lines belong to one of them. The lines stay where they are, and
-/// nothing is allocated.
+/// Returns the scripts if all lines belong to the one with index `place`. The lines stay where they
+/// are, and nothing is allocated.
 fn left_together(scripts: Vec<Script>, place: usize, lines: Vec<Line>, cpus: u32) -> Vec<Script>
     requires bare { scripts.items ≡ map (script_of []) (range_with_len 0 cpus) }
     requires fit { list_all (is_for_run cpus) lines.items ≡ true }
@@ -149,7 +149,7 @@ fn no_scripts(alloc: Global, cpus: u32) -> Result<Vec<Script>, AllocError>
 }
 
 impl Line {
-    /// Returns the place of the line's script.
+    /// Returns the index of the line's script.
     fn place(&self) -> usize
         ensures { result ≡ self.now.cpu }
     {

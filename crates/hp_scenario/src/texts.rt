@@ -7,7 +7,7 @@ ghost use Rattle.hp_scenario.specs.Form.{each_in};
 use serde_json::Value;
 use std::marker::Model;
 
-/// Values that are all texts. A contract sees the list of the texts.
+/// Values that are all texts. In contracts, their value is the list of the texts.
 #[derive(Drop)]
 pub struct Texts<'a> {
     values: &'a [Value],
@@ -46,7 +46,7 @@ impl<'a> Texts<'a> {
         self.values.len()
     }
 
-    /// Returns the text at a place.
+    /// Returns the text with index `place`.
     #[tactic(auto, using(crate::proofs::TextLists::text_there, crate::proofs::TextLists::text_lacks))]
     pub fn at(&self, place: usize) -> &'a str
         requires { place < length self.now }

@@ -37,7 +37,7 @@ fn cut_word<'a>(text: &'a str) -> Option<(&'a str, &'a str)>
     }
 }
 
-/// Returns the place of the first space.
+/// Returns the index of the first space.
 fn space_in(text: &[u8]) -> Option<usize>
     ensures { result ≡ position (λ b. b == 32) text.now }
 {

@@ -17,7 +17,8 @@ use Rattle.hp_schedules.specs.declared.scripts.OwnWork.TheVariants.{Latest, Nth,
 use Rattle.hp_schedules.specs.declared.scripts.Step.{Step}
 use Rattle.hp_schedules.specs.declared.scripts.Step.TheVariants.{Ask, Own, Carry}
 
--- an event drops no earlier steps, except that a Cancel drops its own operation's
+-- an event with this effect drops no earlier steps, except that a Cancel may drop the steps of its
+-- own operation
 abbrev pub leaves_steps : Effect → Bool
 leaves_steps Looks = true
 leaves_steps (Undoes serial) = false

@@ -74,10 +74,10 @@ abbrev pub anonymous_record : Record → Record
 anonymous_record r =
     record { serial = r.serial; cpu = r.cpu; event = anonymous r.event; reply = r.reply }
 
--- h goes on to `end` by the records `more`. From k, the calls of `rest` have the same serials,
--- events and replies, except that events may name operations by other numbers. After both, the
--- scripts go on alike. Each processor's next call is the same but for its operation's number, and
--- each memory block has the same state and zone
+-- h goes on to `end` by the records `more`. From k, the calls of `rest` have the same serials, events
+-- and replies, except that events may name operations by other numbers. After both, the scripts go on
+-- alike. Each processor's next calls differ at most in the numbers of their operations, and each memory
+-- block has the same state and zone
 pub record ContinuesAs (g : Setting) (q rest : List ℕ) (h k end : List Record) : Type 0 where
   pub more : List Record
   pub others : List Record

@@ -106,8 +106,8 @@ carried c =
     cond (is_over c.driver.stage)
     (Some (record { line = c.line; answer = option_map Carried (end_in c.driver.stage) })) None
 
--- a cursor stays at a plan's line when the plan has ended. So if the cursor is at the beginning of
--- a line, the line before it is one call
+-- if the cursor is at the beginning of a line, or past the last line, then the line before it is one
+-- call: after a plan, the cursor stays at the plan's line
 abbrev pub IsSettled : List Step → Cursor → Type 0
 IsSettled lines c =
     is_carrying c lines ≡ false → (k : ℕ) (line : Step) → c.line ≡ k + 1 → slice_get lines k ≡ Some line
@@ -115,7 +115,7 @@ IsSettled lines c =
 
 -- ---- all processors
 
--- each cursor gives the position of its processor's script after the new records
+-- there is one cursor per script, and it gives the processor's position after the new records
 pub record AreCursors (g : Setting) (news : List Record) (cursors : List Cursor) : Type 0 where
   pub many : length cursors ≡ length g.scripts
   pub each : (cpu : ℕ) (lines : List Step) (c : Cursor)
@@ -124,8 +124,8 @@ pub record AreCursors (g : Setting) (news : List Record) (cursors : List Cursor)
   pub settled : (cpu : ℕ) (lines : List Step) (c : Cursor)
       → slice_get g.scripts cpu ≡ Some lines → slice_get cursors cpu ≡ Some c → IsSettled lines c
 
--- a cursor as numbers: its line, the operation begun last, and its driver's turns left, stage and
--- operation. `f` renumbers the operations
+-- a cursor as numbers: its line, the operation begun last, and the driver's remaining turns, its stage
+-- and its operation. `f` renumbers the operations
 abbrev pub steering_of : (f : ℕ → ℕ) → Cursor → List ℕ
 steering_of f c =
     c.line ∷ f c.op ∷ (key_of c.driver).left ∷ (key_of c.driver).stage ∷ f (key_of c.driver).op ∷ []
@@ -143,9 +143,9 @@ frames_named frames (Carry plan turns) = []
 abbrev pub frames_ahead : Cursor → List Step → List Receipt → List ℕ
 frames_ahead c lines receipts = flat_map (frames_named (frames_of receipts)) (drop c.line lines)
 
--- the numbers of a processor's position after the new records; `f` renumbers the operations. With
--- the replies to them, they decide its further calls, if no line works on the operation of its n-th
--- Begin
+-- the numbers of a processor's position after the new records; `f` renumbers the operations. If no line
+-- works on the operation of its processor's n-th Begin, the further calls depend only on these numbers
+-- and on the receipts of those calls
 abbrev pub IsSteered : (f : ℕ → ℕ) → Setting → (cpu : ℕ) → List Record → List ℕ → Type 0
 IsSteered f g cpu news numbers =
     (lines : List Step) → slice_get g.scripts cpu ≡ Some lines

@@ -1,4 +1,4 @@
--- The number that a user gives a part.
+-- The number by which a user names a part.
 use Rattle.std.specs.Prelude.{ℕ, ◌-◌}
 use Rattle.hp_schedules.specs.Parts.{PartValue}
 

@@ -10,8 +10,8 @@ pub record PartValue : Type 0 where
   pub of : ℕ
   pub calls : ℕ
 
--- the index of the part that a schedule's first calls belong to. Their processors are the digits of
--- a number, the highest first, and the index is its remainder modulo the number of parts
+-- the index of the part that a schedule's first calls belong to. Their processors are the digits of a
+-- number in base `processors`, the highest first, and the index is this number modulo `of`
 abbrev pub part_number : (processors of : ℕ) → List ℕ → ℕ
 part_number processors of first = fold (λ n cpu. (n * processors + cpu) % of) 0 first
 
@@ -27,8 +27,8 @@ EndsInPart g part s x = EndsWith g s x × IsOfPart (length g.scripts) part s
 abbrev pub IsCompleteInPart : Setting → PartValue → List ℕ → Type 0
 IsCompleteInPart g part s = (x : OutcomeValue) × EndsInPart g part s x
 
--- the search of the part comes to the place of this schedule: either too few calls lead to it to decide
--- the part, or it belongs to the part
+-- the search of the part comes to the place of this schedule: the schedule has fewer than `part.calls`
+-- calls, or it belongs to the part
 abbrev pub ComesTo : (processors : ℕ) → PartValue → List ℕ → Type 0
 ComesTo processors part s = (length s < part.calls) ⊎ IsOfPart processors part s
 

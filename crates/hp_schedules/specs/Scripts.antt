@@ -95,8 +95,8 @@ line_next cpus known (Ask event) receipts = once event receipts
 line_next cpus known (Own work) receipts = once (work_of known work) receipts
 line_next cpus known (Carry plan turns) receipts = next_event cpus turns plan receipts
 
--- what follows the receipts of a finished line: `earlier` are the line's receipts so far, and
--- `later` come after them. None if the line takes all of `later` and is not finished
+-- the receipts in `later` that a line does not need: those after its last call. `earlier` are the line's
+-- receipts before `later`. None if the line is not finished after all of `later`
 abbrev pub after_line : (cpus : ℕ) → Known → Step → (earlier later : List Receipt) → Option (List Receipt)
 after_line cpus known line earlier [] =
     option_map_or (λ event. None) (line_next cpus known line earlier) (Some [])
@@ -104,8 +104,7 @@ after_line cpus known line earlier (r ∷ rs) =
     option_map_or (λ event. after_line cpus known line (earlier ++ r ∷ []) rs)
     (line_next cpus known line earlier) (Some (r ∷ rs))
 
--- what follows the receipts of several lines, one after another, once all are finished; None if a
--- line is not finished
+-- the receipts that several lines, one after another, do not need; None if a line is not finished
 abbrev pub after_lines : (cpus : ℕ) → Known → List Step → List Receipt → Option (List Receipt)
 after_lines cpus known [] receipts = Some receipts
 after_lines cpus known (line ∷ lines) receipts =

@@ -1,4 +1,5 @@
--- Shares: the number of schedules that continue from a place, for each end that they lead to.
+-- Shares. A share is an end and a number of schedules that lead to it, such as those that continue
+-- from one place.
 use Rattle.std.specs.Prelude.{◌≡◌, ℕ, ◌+◌, ◌<◌, ◌≤◌, List, Some, cond, length, nat_eq, slice_get, slice_index_or, slice_set, sum, sum_by}
 use Rattle.hp_schedules.specs.Notes.{TallyValue}
 use Rattle.hp_schedules.specs.declared.trail.Share.{Share}

@@ -4,8 +4,8 @@ ghost use Rattle.hp_schedules.specs.Causes.{cause_numbers, refusal_numbers};
 
 use hp_units::Refusal;
 
-/// Returns the refusal as two numbers: its kind, and the block or frame that it names. Returns 0
-/// and 0 for none.
+/// Returns the refusal as two numbers: its kind, and the block or frame that it names, or 0 if it
+/// names none. Without a refusal, both are 0.
 pub(crate) fn cause_numbers(why: Option<Refusal>) -> [u32; 2]
     ensures { result ≡ cause_numbers why }
 {

@@ -117,8 +117,8 @@ impl Cursor {
         }
     }
 
-    /// Returns five numbers: the line, the operation begun last, and the driver's turns left, stage
-    /// and operation. Returns `None` if the number of an operation is 2^64 or greater.
+    /// Returns five numbers: the line, the operation begun last, and the driver's remaining turns,
+    /// its stage and its operation. Returns `None` if an operation's number is 2^64 or greater.
     ///
     /// `fixed` and `latest` number the operations, as [`number_of`] does.
     pub(crate) fn steering(&self, fixed: Serial, latest: &[Serial]) -> Option<[u64; 5]>
@@ -136,8 +136,8 @@ impl Cursor {
         ])
     }
 
-    /// Appends the numbers of `push_named` for each line from the cursor's on. Returns whether each
-    /// fits 32 bits; if one does not, the numbers from its line on are missing.
+    /// Appends the numbers of `push_named` for each line, from the cursor's line on. Returns
+    /// whether each number fits 32 bits; if one does not, the numbers from its line on are missing.
     pub(crate) fn push_frames(
         &self,
         lines: &[Step],

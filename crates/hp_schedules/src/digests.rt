@@ -1,5 +1,5 @@
-//! Hashes that find ends here, and keys and transcripts in the crates above. A hit is always
-//! compared. Equal ends are proved to hash alike.
+//! Hashes. This crate finds ends by them, and the crates above find keys, transcripts and more.
+//! After a hit the values themselves are compared. Equal ends are proved to hash alike.
 ghost use Rattle.std.specs.Prelude.{◌≡◌, ℕ, OnOk, Some, fold, nat_eq};
 ghost use Rattle.indexmap.specs.IndexMap.{ContainsKey, Updates};
 ghost use Rattle.hp_schedules.specs.Digests.{digest_of, mixed, mixed_reply, refusal_number, replies_digest, reply_number, row_number};
@@ -10,7 +10,7 @@ use hp_units::{Cpu, Record, Refusal, Reply, Row};
 use indexmap::IndexMap;
 use std::alloc::AllocError;
 
-/// Stores the number under the hash, in place of an earlier one.
+/// Stores `number` under the hash `digest`, in place of an earlier number.
 ///
 /// If memory runs out, all hashes stored before are still there.
 pub fn learn(

@@ -7,7 +7,7 @@ use crate::outcomes::Replies;
 use hp_units::Reply;
 use std::alloc::{AllocError, Global};
 
-/// Returns whether each processor has the same replies in both.
+/// Returns whether `all` and `others` have equally many processors, and the same replies for each.
 pub(crate) fn same_answers(all: &[Replies], others: &[Replies]) -> bool
     ensures { IsTrue result ↔ (all.now ≡ others.now) }
 {

@@ -95,7 +95,7 @@ fn total(lengths: &[u64]) -> Option<u64>
 }
 
 /// Returns the multinomial coefficient of the lengths: the number of interleavings of sequences
-/// this long (Knuth 1, 1.2.6). Returns `None` if it is above the limit.
+/// with these lengths (Knuth 1, 1.2.6). Returns `None` if it is above the limit.
 fn coefficient(lengths: &[u64], limit: u64) -> Option<u64>
     requires { sum lengths.now < 2 ^ 64 }
     ensures some { IfSome result (λ count. IsMultinomial lengths.now count × (count ≤ limit)) }

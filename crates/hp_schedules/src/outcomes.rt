@@ -9,7 +9,8 @@ use hp_units::{Cpu, Record, Reply, Row, Serial};
 use std::alloc::{AllocError, Global};
 use std::marker::Model;
 
-/// One processor's replies, in the order of its calls. A contract sees them as a list.
+/// One processor's replies, in the order of its calls. In contracts, the value is the list of these
+/// replies.
 #[derive(Drop)]
 pub struct Replies {
     replies: Vec<Reply>,

@@ -1,4 +1,4 @@
-//! The number that a user gives a part of a search.
+//! The number by which a user names a part of a search.
 ghost use Rattle.std.specs.Prelude.{◌≡◌, ◌↔◌, ◌≤◌, IfSome, IsSome};
 ghost use Rattle.hp_schedules.specs.PartNumbers.{part_by};
 

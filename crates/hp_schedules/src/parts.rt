@@ -10,7 +10,8 @@ use std::marker::Model;
 /// One part of all schedules.
 ///
 /// The processors of a schedule's first `calls` calls are the digits of a number, the highest
-/// first. That number modulo `of` is the index of the schedule's part.
+/// first; the base is the number of processors. That number modulo `of` is the index of the
+/// schedule's part.
 #[derive(Clone, Copy, Drop)]
 pub struct Shard {
     index: u32,

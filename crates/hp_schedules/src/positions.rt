@@ -36,7 +36,7 @@ impl Positions {
     /// Returns the processor's next call after the new records, or `None` if it has no script or its
     /// script is finished.
     ///
-    /// Looks through the records only for a line that works on an earlier result by its number.
+    /// Looks through the records only if the call's line works on an earlier result by its number.
     pub fn request(
         &self,
         alloc: Global,
@@ -93,11 +93,12 @@ impl Positions {
     }
 
     /// Appends the numbers of the processor's position, and returns whether each fits 32 bits. If
-    /// not, only some of them are appended.
+    /// not, some of them are missing.
     ///
-    /// These are five numbers, and two more for each line from its position on that frees the frame
-    /// of an earlier KernelAlloc. With the replies to them, they decide the processor's further
-    /// calls, if no line of its script works on the operation of its n-th Begin.
+    /// These are five numbers, and two more for each line, from the position on, that frees the
+    /// frame of an earlier KernelAlloc. If no line of the processor's script works on the operation
+    /// of its n-th Begin, its further calls depend only on these numbers and on the receipts of
+    /// those calls.
     ///
     /// `fixed` and `latest` number the operations, as [`number_of`](hp_renumbering::number_of) does.
     pub fn push_steering(

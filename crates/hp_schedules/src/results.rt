@@ -6,11 +6,11 @@ ghost use Rattle.hp_schedules.specs.Scripts.{frame_in, frames_of, no_frame, oper
 
 use hp_units::{Cpu, Event, Frame, Record, Reply, Serial, mark_of};
 
-/// The frame of a refused KernelAlloc. No layout has it.
+/// The result of a KernelAlloc that was refused or not made. No layout has a frame of this number.
 const NO_FRAME: u32 = 4_294_967_295;
 
-/// Returns the serial of the processor's Begin number `nth`, from 0, refused or not. Returns 0 if it
-/// made fewer.
+/// Returns the serial of the processor's Begin number `nth`, counted from 0, refused or not.
+/// Returns 0 if there is no such Begin.
 pub(crate) fn nth_begun(news: &[Record], cpu: Cpu, nth: u32) -> Serial
     ensures { result ≡ get_or (operations_of (receipts_of cpu news.now)) nth 0 }
 {
@@ -27,8 +27,8 @@ pub(crate) fn nth_begun(news: &[Record], cpu: Cpu, nth: u32) -> Serial
     Serial(0)
 }
 
-/// Returns the frame of the processor's KernelAlloc number `nth`, from 0. If that was refused, or it
-/// made fewer, returns a frame that no layout has.
+/// Returns the frame of the processor's KernelAlloc number `nth`, counted from 0. If that call was
+/// refused or not made, returns a frame that no layout has.
 pub(crate) fn nth_frame(news: &[Record], cpu: Cpu, nth: u32) -> Frame
     ensures { result ≡ get_or (frames_of (receipts_of cpu news.now)) nth no_frame }
 {

@@ -26,8 +26,8 @@ pub enum StepWork {
 
 /// Work on the result of an earlier call of the same processor.
 ///
-/// Results are numbered from 0, from the beginning of the scripts on. A call of the driver counts,
-/// and so does a refused one.
+/// The processor's Begins are numbered from 0, from the beginning of the scripts on, and so are its
+/// KernelAllocs. A call of the driver counts, and so does a refused one.
 #[derive(Clone, Copy, Drop)]
 pub enum OwnWork {
     /// Works on the operation that the processor began last.
@@ -50,7 +50,7 @@ pub enum Step {
     Carry { plan: Plan, turns: u32 },
 }
 
-/// The calls of one processor, in order. A contract sees a script as the list of its lines.
+/// The calls of one processor, in order. In contracts, a script's value is the list of its lines.
 #[derive(Drop)]
 pub struct CallScript {
     lines: Vec<Step>,
@@ -122,7 +122,7 @@ impl Step {
     /// Returns whether the line neither undoes steps by their serials (`UndoAfter`), nor works on
     /// the operation of its processor's n-th Begin (`Nth`).
     ///
-    /// An event of `Ask` may still name any operation: that number is in the script.
+    /// An `Ask` may still name an operation by its number, because this number is in the script.
     fn is_mergeable(&self) -> bool
         ensures { result ≡ is_mergeable_line self.now }
     {

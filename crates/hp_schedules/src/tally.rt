@@ -124,9 +124,9 @@ impl Tally {
         }
     }
 
-    /// Returns the index of the end that has this outcome, if there is one.
+    /// Returns the index of the end with the outcome of these records and rows, if there is one.
     ///
-    /// It is nearly always the newest end with this hash. If not, all ends are compared.
+    /// It is nearly always the newest end with the hash `digest`. If not, all ends are compared.
     fn place_of(
         &self,
         digest: u64,
@@ -298,7 +298,7 @@ pub fn fit_in(shares: &[Share], room: u64) -> bool
     true
 }
 
-/// Returns whether the end at index `place` has this outcome.
+/// Returns whether the end at index `place` has the outcome of these records and rows.
 fn is_end_at(
     ends: &[Ending],
     place: usize,
@@ -314,7 +314,7 @@ fn is_end_at(
     }
 }
 
-/// Returns the index of the first end that has this outcome, if there is one.
+/// Returns the index of the first end with the outcome of these records and rows, if there is one.
 fn first_place_of(
     ends: &[Ending],
     processors: u32,

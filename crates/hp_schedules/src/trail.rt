@@ -4,19 +4,20 @@ ghost use Rattle.hp_schedules.specs.Trails.{IsGathered, IsShareOf, IsSummedUp, l
 
 use std::alloc::AllocError;
 
-/// How many schedules continue from a place to one end.
+/// An end, and a number of schedules that lead to it, such as those that continue from one place.
 #[derive(Clone, Copy, Drop)]
 pub struct Share {
     /// The end's index in the list of ends.
     pub end: usize,
-    /// The number of schedules that continue to it.
+    /// The number of these schedules.
     pub count: u64,
 }
 
 /// The shares that were added to the ends, oldest first.
 ///
-/// `places` has for each end the index at which `gather` last stored a sum of that end, or 0 if it
-/// has stored none. It is only a hint: that sum may be gone, and another share in its place.
+/// `places` has for each end the index at which `gather` last stored a sum of that end, or 0 if
+/// it has stored none. This is only a hint: by now that sum may be gone, or another share may be
+/// at that index.
 #[derive(Drop)]
 pub(crate) struct Trail {
     pub(crate) shares: Vec<Share>,
@@ -83,8 +84,9 @@ impl Trail {
         end + 1
     }
 
-    /// Returns the index of the sum of the end at index `end`, if the end's entry in `places` is
-    /// the index of that sum. The sums are at the indexes from `start` to before `many`.
+    /// Returns the index of the sum for the end with index `end`. Returns `None` if the end's entry
+    /// in `places` is not the index of such a sum. The sums are at the indexes from `start` to
+    /// before `many`.
     fn place_of(&self, end: usize, start: usize, many: usize) -> Option<usize>
         requires { many ≤ length self.now.shares.items }
         ensures from { IfSome result (λ place. start ≤ place) }

@@ -19,9 +19,9 @@ use Rattle.hp_search.specs.Holding.{HoldsIn}
 
 -- ---- scripts on a machine
 
--- with None, the ends count all complete schedules, there are at most `limit` of these, and no
--- schedule fills the history. With `known`, the ends count only the first schedules, and `known`
--- describes the number of all. Either `limit` schedules are counted, or the watch has ended the
+-- with None, the ends count all complete schedules, there are at most `limit` of these, and no schedule
+-- fills the history. With `known`, the ends count only the first schedules, there are more, and `known`
+-- describes the number of all; and either `limit` schedules are counted, or the watch has ended the
 -- search
 abbrev pub AreExplored : Setting → (limit : ℕ) → (ended : Type 0) → List Ending → Option HowMany → Type 0
 AreExplored g limit ended ends None =
@@ -30,8 +30,8 @@ AreExplored g limit ended ends (Some known) =
     AreFirst g (counted ends) ends × HasMoreThan (IsComplete g) (counted ends)
     × ((counted ends ≡ limit) ⊎ ended) × IsKnown g.scripts (2 ^ 64 - 1) known
 
--- the text has either the ends that at most `limit` schedules lead to, or the groups of these ends.
--- The ends are in the order of their first schedules
+-- the text has either the ends that were counted, or the groups of these ends. The ends count at most
+-- `limit` schedules in all, and are in the order of their first schedules
 pub record IsExploredOn (form : EndsForm) (by : Option GroupBy) (names : List (List ℕ)) (before : List Line)
     (g : Setting) (limit : ℕ) (ended : Type 0) (text : List ℕ) (found : Bool) : Type 0 where
   pub ends : List Ending

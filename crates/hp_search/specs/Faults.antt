@@ -21,8 +21,8 @@ abbrev pub FillsAlongSome : Setting → List Ending → Type 0
 FillsAlongSome g ends =
     (place : ℕ) × (e : Ending) × (slice_get ends place ≡ Some e) × FillsAlong g e.first.items
 
--- the history is full, for a cause that `C` states, and needs room for `needed` records; None if this
--- number is not known
+-- the history is full, for a cause that `C` states, and needs room for `needed` records; None if a line
+-- is a plan, or if there are 2^64 records or more
 abbrev pub IsFull : (C : Setting → ExploreFault → Type 0) → (needed : Option ℕ) → Setting → Type 0
 IsFull C needed g = C g explore.HistoryFull × IsRoomNeeded g needed
 

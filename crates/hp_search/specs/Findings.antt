@@ -21,17 +21,17 @@ use Rattle.hp_search.specs.FoundTexts.{absent_told, found_text, unknown_told}
 
 -- ---- scripts on a machine
 
--- the text reports either the schedule that was found, or that no schedule ends as wanted
+-- the text and the result report what was found: either a schedule, or that no schedule ends as wanted
 abbrev pub IsFoundTold : ScheduleForm → (names : List (List ℕ)) → (before : List Line) → Setting → Sought
     → (text : List ℕ) → FindResult → Type 0
 IsFoundTold form names before g (sought.Nearest schedule) text result =
     (text ≡ found_text form names before g schedule.items) × (result ≡ Found)
 IsFoundTold form names before g sought.Absent text result = (text ≡ absent_told form) × (result ≡ Absent)
 
--- the text reports the first schedule with the fewest changes of processor that ends as wanted, or
--- that there is none, or that this is not known. The history has room for all calls of the schedule
--- or, if there is none, for all calls of all schedules. No wanted line names anything past the
--- layout
+-- the text reports the first of the schedules that end as wanted with the fewest changes of processor,
+-- or that no schedule ends as wanted, or that this is not known. In the first case the history has room
+-- for all calls of the schedule, and in the second for all calls of all schedules. No wanted line names
+-- anything past the layout
 abbrev pub IsFoundOn : ScheduleForm → (names : List (List ℕ)) → (before : List Line) → Setting
     → List Wanted → (text : List ℕ) → FindResult → Type 0
 IsFoundOn form names before g wanted text Found =

@@ -26,8 +26,8 @@ pub record InScenario (input : List ℕ) (count : ℕ) (P : NamedValue → Type 
   pub resolved : Resolves count named plain
   pub holds : P plain
 
--- the bytes are a scenario whose lines after the setup may be in scripts. `P` holds of its names,
--- of the setup's lines, and of the setting in which the scripts begin
+-- the bytes are a scenario whose lines after the setup may be in scripts. `P` holds of the names of its
+-- owners, of the setup's lines, and of the setting in which the scripts begin
 abbrev pub HoldsIn : (P : (names : List (List ℕ)) → (before : List Line) → Setting → Type 0)
     → (input : List ℕ) → (setup : ℕ) → Type 0
 HoldsIn P input setup =

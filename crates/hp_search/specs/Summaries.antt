@@ -34,6 +34,6 @@ WritesLines ends old new =
 abbrev pub WritesSummary : List Ending → Option HowMany → (old new : List ℕ) → Type 0
 WritesSummary ends more old new = WritesLines ends (old ++ counts_text ends more) new
 
--- the text is the summary of the ends
+-- the text is a summary of the ends, in which only the beginning of each end's line is stated
 abbrev pub IsSummary : List Ending → Option HowMany → (text : List ℕ) → Type 0
 IsSummary ends more text = WritesSummary ends more [] text

@@ -48,15 +48,16 @@ object_at names g ends place = numbered_object names g (place + 1) (slice_get en
 abbrev pub objects_text : (names : List (List ℕ)) → Setting → List Ending → List ℕ
 objects_text names g ends = texts_below (object_at names g ends) (length ends)
 
--- the objects of all ends. If not all interleavings were counted, then an object with the number
--- that were and the number of all
+-- the objects of all ends. If not all interleavings were counted, an object follows with the number
+-- that was counted and the number of all
 abbrev pub all_objects_text : (names : List (List ℕ)) → Setting → List Ending → Option HowMany → List ℕ
 all_objects_text names g ends more =
     objects_text names g ends ++ more_object (sum_by (λ e. e.count) ends) more
 
 -- ---- a schedule
 
--- the text of a schedule as a scenario: the setup's lines, then its calls
+-- the text of a schedule as a scenario: the setup's lines, then its calls. It is empty if the schedule
+-- cannot be played
 abbrev pub replay_text : (names : List (List ℕ)) → (before : List Line) → Setting → (schedule : List ℕ)
     → List ℕ
 replay_text names before g schedule = replayed_text names before g.layout (plays g schedule)

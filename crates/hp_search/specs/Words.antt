@@ -15,7 +15,7 @@ use Rattle.hp_text.specs.Entries.{calls_text}
 
 -- ---- the outcome
 
--- the text of a processor's number and its replies
+-- the text of a processor's number and its replies; empty for None
 abbrev pub answers_text : (cpu : ℕ) → Option (List Reply) → List ℕ
 answers_text cpu None = []
 answers_text cpu (Some replies) = codes "cpu " ++ decimal cpu ++ newline ++ flat_map bare_reply_line replies

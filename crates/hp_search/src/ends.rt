@@ -18,8 +18,8 @@ use std::alloc::Global;
 impl Prepared {
     /// Returns the text of an exploration of the scripts, as `explore_text` returns it.
     ///
-    /// Replays the first interleaving of each end whose calls the text has. The error is
-    /// `HistoryFull` if the history has no room for all calls of one of these, or `OutOfMemory`.
+    /// Replays an end's first interleaving if its calls are in the text. The error is `HistoryFull`
+    /// if the history has no room for all calls of such an interleaving, or `OutOfMemory`.
     pub fn exploration_told(
         &self,
         alloc: Global,
@@ -40,8 +40,8 @@ impl Prepared {
     /// Returns the text of `ends` in `form`, as `explore_text` returns it. `more` is `None` if all
     /// interleavings were counted, and otherwise what is known of their number.
     ///
-    /// Replays the first interleaving of each end whose calls the text has; a summary has none. The
-    /// error is `HistoryFull` if the history has no room for all calls of one of these, or
+    /// Replays an end's first interleaving if its calls are in the text; a summary has none. The
+    /// error is `HistoryFull` if the history has no room for all calls of such an interleaving, or
     /// `OutOfMemory`.
     pub fn ends_told(
         &self,

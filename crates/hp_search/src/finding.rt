@@ -21,10 +21,10 @@ use std::alloc::{AllocError, Global};
 /// line goes to the script of its processor. There, operation 0 is the one that the processor began
 /// last.
 ///
-/// If an interleaving ends as wanted, the text has the first one with the fewest changes. As words
-/// or as an object, this is its number of changes and its calls; else it is a scenario. If there is
-/// none, the text reports that. If `watch` ended the search, it reports that nothing is known. As a
-/// scenario it is empty in both cases.
+/// If an interleaving ends as wanted, the text has the first one with the fewest changes: its
+/// number of changes and its calls, as words or as an object; or the interleaving as a scenario. If
+/// there is none, the text reports that. If `watch` ended the search, it reports that nothing is
+/// known. As a scenario the text is empty in these two cases.
 ///
 /// `watch` gets the number of states that the search has reached.
 ///
@@ -102,7 +102,7 @@ fn unknown_or(alloc: Global, form: ScheduleForm, fault: FindFault) -> Result<Fin
     }
 }
 
-/// Returns what a search found, as text in `form`. Replays the schedule.
+/// Returns what a search found, as text in `form`. Replays the schedule, if one was found.
 fn found_told(
     alloc: Global,
     prepared: &Prepared,

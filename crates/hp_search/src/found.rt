@@ -25,8 +25,8 @@ pub enum FindResult {
 /// The result of a search for an end, with its text.
 #[derive(Drop)]
 pub struct FindText {
-    /// The interleaving that was found. If there is none, or if that is not known, the text reports
-    /// it, except that it is empty for `ScheduleForm::Scenario`.
+    /// The interleaving that was found. If there is none, or if it is not known whether there is
+    /// one, the text reports this. For `ScheduleForm::Scenario` it is then empty.
     pub text: String,
     /// How the search ended.
     pub result: FindResult,

@@ -71,8 +71,8 @@ pub(crate) fn grouped(
 
 /// The groups of the ends so far.
 ///
-/// `latest` maps the hash of the part by which ends are grouped to the index of the newest group
-/// with this hash.
+/// `latest` maps a hash to the index of the newest group with this hash. The hash of a group is
+/// that of the part of its outcome by which ends are grouped.
 struct Groups<'a> {
     by: &'a Grouping<'a>,
     ends: Vec<Ending>,

@@ -19,7 +19,7 @@ pub enum LabFault {
     BadShape,
     /// The scenario's layout is out of its limits.
     Layout(LayoutFault),
-    /// A string of `calls` is not a line; lines are counted from 1.
+    /// A string of `calls` cannot be read as a line; lines are counted from 1.
     BadLine { line: u64 },
     /// A line after the setup may not be in a script; lines are counted from 1.
     NotForScript { line: u64, why: Unfit },
@@ -27,8 +27,8 @@ pub enum LabFault {
     /// lines are counted from 1.
     PastLayout { number: u64 },
     /// The layout's history has no room for all calls of an interleaving. It needs room for
-    /// `needed` records. This is `None` if a script holds a plan, whose calls only a search can
-    /// count, or if it is 2^64 or more.
+    /// `needed` records; `None` if a script holds a plan, whose calls only a search can count, or
+    /// if the number is 2^64 or more.
     HistoryFull { needed: Option<u64> },
     /// Out of memory.
     OutOfMemory,

@@ -17,8 +17,8 @@ pub enum PartFault {
     /// or the input is empty.
     NotPart { line: u64 },
     /// The line is the head of a part, but not byte for byte one that the search of line 1 writes.
-    /// The scenario, the setup, the number of parts or the number of first calls that decide a part
-    /// is another one, or the search has no part with this number.
+    /// It has another scenario, setup, number of parts, or number of first calls that decide a
+    /// part; or the search has no part with its number; or it is written in another way.
     OtherSearch { line: u64 },
     /// The processors of the line are not a complete interleaving of its part.
     NotOfPart { line: u64 },

@@ -89,7 +89,8 @@ impl Prepared {
         play(alloc, &self.start.machine, &self.start.scripts, schedule)
     }
 
-    /// Returns the calls that a machine made after the setup, or `None` if there is no machine.
+    /// Returns the calls that the machine `played` recorded after the setup, or `None` if `played`
+    /// is `None`.
     pub fn calls_of<'a>(&self, played: &'a Option<Machine>) -> Option<&'a [Record]>
         requires { GoesOn (setting_of self.now) played.now }
         ensures { option_map (λ c. c.now) result ≡ calls_in (setting_of self.now) played.now }

@@ -22,8 +22,8 @@ const CUT: &str = " ..";
 ///
 /// A block is drawn as `trace` draws it, without its frames: `N` or `M` if it is online in this
 /// zone, `N>off` or `M>off` if it is going offline, `off` or `absent`. Neighbours that are drawn
-/// alike are joined, as in `0-3:N`. In place of the blocks with which a line would be longer than
-/// 100 bytes, it has ` ..`.
+/// alike are joined, as in `0-3:N`. A line has as many blocks as fit into 100 bytes with ` ..`
+/// behind them, and ` ..` in place of the others.
 pub fn write_summary(
     out: &mut String,
     alloc: Global,
@@ -102,8 +102,8 @@ fn refusals_in(all: &[Replies]) -> u64 {
     refused
 }
 
-/// Writes the states of the memory blocks, from block 0. Neighbours with equal states are joined.
-/// Writes `CUT` in place of the blocks with which the text would be longer than `most` bytes.
+/// Writes the states of the memory blocks, from block 0, as long as `out` followed by `CUT` has at
+/// most `most` bytes. Writes `CUT` in place of the others. Neighbours with equal states are joined.
 fn write_blocks(
     out: &mut String,
     alloc: Global,

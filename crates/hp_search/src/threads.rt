@@ -15,8 +15,9 @@ use std::thread::Threads;
 /// Explores a scenario in `jobs` threads, at most 256. Returns what `explore_text` returns, and
 /// fails like it.
 ///
-/// Calls `watch` as `explore_with_jobs` of hp_explore does: once with the total after the threads,
-/// or as in a search by a single thread if the threads' results cannot be used.
+/// Calls `watch` as `explore_with_jobs` of hp_explore does: once, with the total, after the threads
+/// have finished. If `jobs` is below 2, or if the threads' results cannot be used, calls it as in a
+/// search by a single thread.
 pub fn explore_text_with_jobs<W: Watch>(
     rt: &(impl Threads + Sync),
     alloc: Global,

@@ -78,7 +78,7 @@ fn write_processors(out: &mut String, cpus: u32, replies: &[Replies]) -> Result<
     Ok(())
 }
 
-/// Writes a processor's number and its replies.
+/// Writes a processor's number and its replies. Writes nothing if `answers` is `None`.
 fn write_answers(out: &mut String, cpu: Cpu, answers: Option<&Replies>) -> Result<(), AllocError>
     ensures { OnOk result (string_bytes out.new
         ≡ string_bytes out.old ++ answers_text cpu (option_map (λ a. a.now) answers.entry)) }

@@ -19,7 +19,7 @@ pub record IsChecked (m : MachineValue) (cpus : ℕ) (seats : List SeatValue) (v
   pub settled : IsSettled (all_records volumes m) seats
   pub records : count ≡ length (all_records volumes m)
 
--- the fault applies, and no fault above it in this list does, except that OutOfMemory may hide a
+-- the fault applies, and no fault of a case above it does. OutOfMemory, though, may come in place of a
 -- Mismatch. `at` is as in IsWrongAt, `serial` is the lowest serial of a mismatch
 abbrev pub HasFault : MachineValue → (cpus : ℕ) → List SeatValue → List Volume → CloseFault → Type 0
 HasFault m cpus seats volumes SeatMissing = HasEach cpus seats → ⊥
@@ -29,13 +29,14 @@ HasFault m cpus seats volumes (Mismatch serial) =
     × IsLowest (MismatchesAt (all_records volumes m) seats) serial
 HasFault m cpus seats volumes OutOfMemory = HasEach cpus seats × ReachSealed volumes m.before
 
--- if a call of a seat found the history full, `all`, the number of all records, has reached the
--- limit of a history, or no serial is left
+-- if a call of a seat found the history full, then `all` (the number of all records) has reached a
+-- history's limit, or no serial is left
 abbrev pub AreReached : LayoutParts → List SeatValue → (all : ℕ) → Type 0
 AreReached l seats all = All (HasReached l all) seats
 
--- the machine is the shared one, and all its records, `count` in number, are exactly the seats'
--- receipts. If a seat found the history full, `count` has reached the limit, or no serial is left
+-- the machine is a shared machine of the layout. With the seats and the volumes it passed the check
+-- (IsChecked), and it has `count` records in all. If a seat found the history full, `count` has reached
+-- the limit, or no serial is left
 pub record IsClosed (l : LayoutParts) (seats : List SeatValue) (volumes : List Volume) (m : MachineValue)
     (count : ℕ) : Type 0 where
   pub shared : IsShared l (record { machine = m; total = count })

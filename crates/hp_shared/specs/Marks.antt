@@ -7,7 +7,7 @@ use Rattle.hp_shared.specs.declared.marks.Compared.{Compared}
 use Rattle.hp_shared.specs.Comparing.{IsOutcome, IsSeatOf, StraysAt}
 use Rattle.hp_shared.specs.Shared.{SeatValue}
 
--- the lower of two serials, or the one that there is
+-- the lower of two serials; if only one is there, that one; otherwise None
 abbrev pub lower : Option ℕ → Option ℕ → Option ℕ
 lower None n = n
 lower (Some m) None = Some m
@@ -18,13 +18,13 @@ abbrev pub EntryDiffersAt : Option Receipt → Receipt → ℕ → Type 0
 EntryDiffersAt entry b serial =
     (entry ≢ Some b) × ((b.serial ≡ serial) ⊎ ((a : Receipt) × (entry ≡ Some a) × (a.serial ≡ serial)))
 
--- at some place of `done` the seat has another receipt or none, and `serial` is that of one of the
--- receipts there
+-- at some index of `done` the seat has another receipt or none, and `serial` is that of one of
+-- the receipts there
 abbrev pub DiffersBefore : List Receipt → List Receipt → ℕ → Type 0
 DiffersBefore receipts done serial =
     (at : ℕ) × (b : Receipt) × (slice_get done at ≡ Some b) × EntryDiffersAt (slice_get receipts at) b serial
 
--- the seat has each receipt of `done` at the same place
+-- the seat has each receipt of `done` at the same index
 abbrev pub Agrees : List Receipt → List Receipt → Type 0
 Agrees receipts done = (at : ℕ) (b : Receipt) → slice_get done at ≡ Some b → slice_get receipts at ≡ Some b
 

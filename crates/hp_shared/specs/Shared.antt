@@ -55,7 +55,7 @@ first_seat cpu = record { cpu = cpu; receipts = []; sealed = 0; fulls = 0 }
 abbrev pub first_seats : (cpus : ℕ) → List SeatValue
 first_seats cpus = map first_seat (range_with_len 0 cpus)
 
--- the records without the `sealed` ones fill a history, or no serial is left
+-- the records without the `sealed` ones are at least as many as a history holds, or no serial is left
 abbrev pub IsFilled : LayoutParts → (sealed all : ℕ) → Type 0
 IsFilled l sealed all = (l.history + sealed ≤ all) ⊎ (18446744073709551615 ≤ all)
 
@@ -63,8 +63,8 @@ IsFilled l sealed all = (l.history + sealed ≤ all) ⊎ (18446744073709551615 �
 abbrev pub IsReached : LayoutParts → (all : ℕ) → Type 0
 IsReached l all = (l.history ≤ all) ⊎ (18446744073709551615 ≤ all)
 
--- if a seat found the history full, the number of all records has reached that limit, or no serial
--- is left
+-- if a seat found the history full, there are at least as many records as a history holds,
+-- or no serial is left
 abbrev pub HasReached : LayoutParts → (all : ℕ) → SeatValue → Type 0
 HasReached l all seat = 0 < seat.fulls → IsReached l all
 
@@ -80,12 +80,12 @@ left_by seat HistoryFull =
     record { cpu = seat.cpu; receipts = seat.receipts; sealed = seat.sealed; fulls = seat.fulls + 1 }
 left_by seat OutOfMemory = seat
 
--- the seat's own counts do not exclude that the history is full: on a machine with one processor,
--- the seat's unsealed receipts reach the limit of a history
+-- as far as the seat's own counts show, the history may be full: on a machine with one processor, the
+-- seat's unsealed receipts reach the limit of a history
 abbrev pub MayBeFull : LayoutParts → SeatValue → Type 0
 MayBeFull l seat = l.cpus ≡ 1 → l.history + seat.sealed ≤ length seat.receipts
 
--- the receipt is that of the last record of the machine's history, which is the processor's
+-- the last record of the machine's history is the processor's, and the receipt is that record's
 pub record IsLastOf (m : MachineValue) (cpu : ℕ) (r : Receipt) : Type 0 where
   pub earlier : List Record
   pub history : m.history ≡ earlier ++ record_of cpu r ∷ []

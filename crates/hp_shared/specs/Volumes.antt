@@ -16,7 +16,7 @@ sealed_records (v ∷ vs) = v.records ++ sealed_records vs
 abbrev pub all_records : List Volume → MachineValue → List Record
 all_records volumes m = sealed_records volumes ++ m.history
 
--- for each volume before place `end`, `before` is the number of records in the volumes before it
+-- for each volume with an index below `end`, `before` is the number of records in the volumes before it
 abbrev pub AreCountedBefore : List Volume → ℕ → Type 0
 AreCountedBefore volumes end =
     (at : ℕ) (v : Volume) → at < end → slice_get volumes at ≡ Some v → v.before ≡ records_in (take at volumes)
@@ -27,19 +27,19 @@ pub record ReachSealed (volumes : List Volume) (sealed : ℕ) : Type 0 where
   pub counted : AreCountedBefore volumes (length volumes)
   pub sealed_all : records_in volumes ≡ sealed
 
--- `before` of the volume at this place is not the number of records in the volumes before it
+-- the volume with index `at` has a `before` that is not the number of records in the volumes before it
 abbrev pub IsMiscounted : List Volume → ℕ → Type 0
 IsMiscounted volumes at =
     (v : Volume) × (slice_get volumes at ≡ Some v) × (v.before ≢ records_in (take at volumes))
 
--- `at` is the place of the first volume whose `before` is wrong; if none is wrong, but the volumes
--- do not hold `sealed` records, it is the number of volumes
+-- `at` is the index of the first volume whose `before` is wrong; if none is wrong, but the volumes do
+-- not hold `sealed` records, it is the number of volumes
 pub record IsWrongAt (volumes : List Volume) (sealed at : ℕ) : Type 0 where
   pub counted : AreCountedBefore volumes at
   pub wrong : IsMiscounted volumes at ⊎ ((at ≡ length volumes) × (records_in volumes ≢ sealed))
 
--- a volume is what some state of the shared machine held since its last seal; the last serial of
--- that state is at least the number of the seat's receipts
+-- the volume is that of some state of the shared machine: it holds all records since the last seal. The
+-- last serial of that state is at least `receipts`
 pub record IsSealOf (l : LayoutParts) (v : Volume) (receipts : ℕ) : Type 0 where
   pub seen : LockedValue
   pub shared : IsShared l seen

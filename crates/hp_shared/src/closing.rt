@@ -19,9 +19,9 @@ use std::alloc::{AllocError, Global};
 pub enum CloseFault {
     /// There is not exactly one seat per processor.
     SeatMissing,
-    /// The place, from 0, of the first volume whose `before` is not the number of records in the
-    /// volumes before it; or the number of volumes, if together they do not hold all sealed
-    /// records.
+    /// The index of the first volume whose `before` is not the number of records in the volumes
+    /// before it. If there is none, but together the volumes do not hold all sealed records, it is
+    /// the number of volumes.
     WrongVolume { at: u64 },
     /// The lowest serial at which a seat's receipts differ from its processor's records, or of a
     /// record that belongs to no seat.

@@ -30,7 +30,7 @@ pub fn has_each<L: Job>(seats: &Vec<Seat<L>>, cpus: u32) -> bool
     true
 }
 
-/// Returns whether another seat has the same processor.
+/// Returns whether another seat has the same processor as the seat with index `place`.
 fn has_twin<L: Job>(seats: &Vec<Seat<L>>, place: usize) -> bool
     requires { place < vec_len seats.now }
     ensures alone { result ≡ false → IsTwinless seats.now.items place }

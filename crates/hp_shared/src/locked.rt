@@ -155,8 +155,8 @@ impl<L: Job> Locked<L> {
         Ok(volume)
     }
 
-    /// Called for its contract: shares that have the parts of all processors equal the totals. Has
-    /// no effect.
+    /// Called for its contract: if a share has the parts of all processors, its amount is the
+    /// total. Has no effect.
     pub(crate) fn audit(&mut self, share: &mut Share<L>, handed: &mut Share<Sealed<L>>)
         ensures locked { self.new ≡ self.old }
         ensures share { (share.new.parts ≡ share.old.parts) × (share.new.amount ≡ share.old.amount) }
@@ -170,8 +170,8 @@ impl<L: Job> Locked<L> {
         self.sealed.audit(handed);
     }
 
-    /// Called for its contract: if a share counts a call that found the history full, all records
-    /// reach the limit, or no serial is left. Has no effect.
+    /// Called for its contract: if a share counts a call that found the history full, then the
+    /// number of all records has reached the limit, or no serial is left. Has no effect.
     pub(crate) fn audit_full(&mut self, told: &mut Share<Fulls<L>>)
         ensures locked { self.new ≡ self.old }
         ensures told { (told.new.parts ≡ told.old.parts) × (told.new.amount ≡ told.old.amount) }

@@ -41,7 +41,7 @@ impl Compared {
     }
 
     /// Returns the lowest serial at which the receipts differ from the records that were compared.
-    /// Receipts past these records differ.
+    /// Receipts past these records count as different.
     pub fn finish(self, receipts: &[Receipt]) -> Option<Serial>
         ensures { (done : List Receipt) → IsMark receipts.now done self
             → IsOutcome (receipts.now ≡ done) (DifferAt receipts.now done) result }
@@ -54,7 +54,7 @@ impl Compared {
     }
 }
 
-/// Returns the lower of two serials, or the one that there is.
+/// Returns the lower of two serials; if only one is there, that one; otherwise `None`.
 pub fn lower(one: Option<Serial>, other: Option<Serial>) -> Option<Serial>
     ensures { result ≡ lower one other }
 {
@@ -67,8 +67,9 @@ pub fn lower(one: Option<Serial>, other: Option<Serial>) -> Option<Serial>
     }
 }
 
-/// Returns the lowest serial at which the receipt at a place differs from a record; `None` if it is
-/// the record's.
+/// Compares the receipt at index `place` with a record. Returns `None` if it is the record's
+/// receipt, and otherwise the lower of their two serials. Without a receipt there, this is
+/// the record's serial.
 fn difference(receipts: &[Receipt], place: usize, latest: &Record) -> Option<Serial>
     ensures { IsOutcome (slice_get receipts.now place ≡ Some (receipt_of latest.now))
         (EntryDiffersAt (slice_get receipts.now place) (receipt_of latest.now)) result }

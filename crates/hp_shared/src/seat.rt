@@ -77,8 +77,8 @@ impl<L: Job> Seat<L> {
     /// room for the receipt and copies the event; then takes the lock once, and may wait for it.
     ///
     /// Errors: `HistoryFull` as from `Locked::turn` (on a machine with one processor, only once the
-    /// seat's unsealed receipts reach the limit), and `OutOfMemory`. On an error, only the seat's
-    /// count of full histories changes.
+    /// seat's unsealed receipts reach the limit), and `OutOfMemory`. On an error, nothing changes
+    /// but the seat's count of calls that found the history full.
     pub fn call(
         &mut self,
         rt: &impl Wait,

@@ -4,9 +4,9 @@ ghost use Rattle.hp_shared.specs.Volumes.{IsWrongAt, ReachSealed};
 
 use hp_history::Volume;
 
-/// Returns the place, from 0, of the first volume whose `before` is not the number of records in
-/// the volumes before it; or the number of volumes, if each is right but together they do not hold
-/// `sealed` records. `None` if they do.
+/// Returns the index of the first volume whose `before` is not the number of records in the volumes
+/// before it. If there is none, but together the volumes do not hold `sealed` records, returns the
+/// number of volumes. Returns `None` if they do.
 pub fn wrong_volume(volumes: &Vec<Volume>, sealed: u64) -> Option<u64>
     ensures wrong { IfSome result (λ at. IsWrongAt volumes.now.items sealed at) }
     ensures right { IfNone result (ReachSealed volumes.now.items sealed) }

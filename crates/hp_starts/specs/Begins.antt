@@ -18,7 +18,8 @@ begin_of r = if is_opening (mark_of r.event) then record { cpu = r.cpu; serial =
 abbrev pub begins_in : List Record → List Begin
 begins_in records = flat_map begin_of records
 
--- the serial of a processor's last Begin, after one more Begin
+-- the serial of a processor's last Begin, after one more Begin `b`: that of `b` if the processor made
+-- it, and otherwise still `op`
 abbrev pub later_begun : (cpu : ℕ) → (op : ℕ) → Begin → ℕ
 later_begun cpu op b = if b.cpu == cpu then b.serial else op
 

@@ -11,13 +11,13 @@ abbrev pub AreFit : (cpus : ℕ) → List Line → (below : ℕ) → Type 0
 AreFit cpus lines below =
     (k : ℕ) (line : Line) → k < below → slice_get lines k ≡ Some line → unfit cpus line ≡ None
 
--- line number `place` may not be in a script, and the fault gives the reason
+-- line number `place` may not be in a script, and the fault gives this number and the reason
 abbrev pub IsLineFault : (cpus place : ℕ) → Line → StartFault → Type 0
 IsLineFault cpus place line (NotForScript at why) = (at ≡ place) × (unfit cpus line ≡ Some why)
 IsLineFault cpus place line OutOfMemory = ⊥
 
--- line number `place`, counted from 1, is the first that may not be in a script; `before` is the number
--- of lines before `lines`
+-- line number `place`, counted from 1, is the first that may not be in a script, and `why` is the
+-- reason. `before` is the number of lines before `lines`
 pub record IsFirstUnfit (cpus before : ℕ) (lines : List Line) (place : ℕ) (why : Unfit) : Type 0 where
   pub at : ℕ
   pub line : Line

@@ -28,7 +28,8 @@ IsKnownAfter cpus setup lines limit None = AreScripts cpus setup lines → ⊥
 IsKnownAfter cpus setup lines limit (Some known) =
     AreScripts cpus setup lines × AreKnownAs cpus (drop setup lines) limit known
 
--- the line that reports the number, or that it is not known; empty for None
+-- the line that reports the number of interleavings, or that it is above `limit`, or that it is not
+-- known; empty for None
 abbrev pub told_text : (limit : ℕ) → Option HowMany → List ℕ
 told_text limit None = []
 told_text limit (Some (Exactly count)) = codes "interleavings: " ++ decimal count ++ newline
@@ -36,7 +37,8 @@ told_text limit (Some MoreThanLimit) = codes "interleavings: more than " ++ deci
 told_text limit (Some Unknown) =
     codes "interleavings: not known: the calls of a plan are counted only by explore\n"
 
--- the text reports the number of interleavings of the lines after the first `setup`
+-- the text reports what is known of the number of interleavings of the lines after the first `setup`.
+-- It is empty if one of these may not be in a script
 abbrev pub IsCountTold : (cpus setup : ℕ) → List Line → (limit : ℕ) → (text : List ℕ) → Type 0
 IsCountTold cpus setup lines limit text =
     (known : Option HowMany) × IsKnownAfter cpus setup lines limit known × (text ≡ told_text limit known)

@@ -1,4 +1,5 @@
--- The call of a line with a name: it works on the result of the named line's call.
+-- The call of a line that names the result of an earlier line: it works on the result of that line's
+-- call.
 use Rattle.std.specs.Prelude.{◌≡◌, ℕ, List, [], ◌∷◌, ◌++◌, Option, Some, false, slice_get, take}
 use Rattle.hp_units.specs.declared.events.Event.{Event}
 use Rattle.hp_units.specs.declared.events.Event.TheVariants.{KernelFree, DrainFor, Migrate, Commit, Cancel}
@@ -16,7 +17,8 @@ abbrev pub steps_before : List Begin → List Line → (sources : List (Option �
 steps_before begins lines sources cpu place =
     steps_in cpu (last_begun cpu begins) false lines sources 0 (take place lines)
 
--- the receipts are exactly those that the processor's lines before index `place` got
+-- the processor's lines before index `place` are finished with these receipts, and none of the receipts
+-- is left over. The receipts' events are not compared with those of the lines
 abbrev pub AreOfLinesBefore : (cpus : ℕ) → List Begin → List Line → (sources : List (Option ℕ))
     → (cpu place : ℕ) → List Receipt → Type 0
 AreOfLinesBefore cpus begins lines sources cpu place receipts =
@@ -35,8 +37,8 @@ pub record IsCallOf (cpus : ℕ) (begins : List Begin) (lines : List Line) (sour
   pub whole : receipts ≡ before ++ call ∷ later
   pub over : AreOfLinesBefore cpus begins lines sources cpu source before
 
--- the event with a call's result in place of its number: either the operation that the call began, or
--- the frame that it took
+-- the event with a call's result instead of its operation or frame: the call's serial as the operation,
+-- or the frame in the call's reply. Any other event stays as it is
 abbrev pub event_on : Receipt → Event → Event
 event_on call (DrainFor op cpu) = DrainFor call.serial cpu
 event_on call (Migrate op) = Migrate call.serial

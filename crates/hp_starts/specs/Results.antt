@@ -32,7 +32,7 @@ is_free e = false
 
 -- ---- lines with a result
 
--- the line's work is a Begin, and not a plan, which begins its own operation
+-- the line's work is a Begin; a plan does not count, although it begins an operation
 abbrev pub asked_opens : asks.Meaning → Bool
 asked_opens (asks.event e) = is_opening (mark_of e)
 asked_opens m = false
@@ -52,19 +52,19 @@ line_allocs cpu line = (line.cpu == cpu) && asked_allocs (asks.asked_by line.wor
 
 -- ---- work on a result
 
--- the work on the operation that the line at index `place` began; `earlier` has the lines before
--- the line that does the work. The operation is the processor's latest if no line of `earlier`
--- after `place` begins another, by a Begin or a plan. Otherwise its number is the number of
--- operations that the script began before it
+-- the work on the operation that the line at index `place` began; `earlier` has the lines before the
+-- line that does the work. The operation is the processor's latest if no line of `earlier` after
+-- `place` begins another, by a Begin or a plan. Otherwise it is given by how many operations the script
+-- began before it
 abbrev pub on_begun : (cpu : ℕ) → (earlier : List Line) → (place : ℕ) → StepWork → OwnWork
 on_begun cpu earlier place w =
     if count_by (line_begins cpu) (drop (place + 1) earlier) == 0 then Latest w
     else Nth (count_by (line_begins cpu) (take place earlier)) w
 
--- the work of a line's event on the result of the line at index `place`, which is `line`. It is
--- either work on the operation that `line` began, or a free of the frame that `line` got. The
--- frame's number is the number of blocks that the script asked for before it. `None` if there is no
--- such result, or if the work is not an event
+-- the work of a line's event on the result of the line at index `place`, which is `line`. It is either
+-- work on the operation that `line` began, or a free of the frame that `line` got. The frame is given
+-- by how many kernel blocks the script asked for before it. `None` if `line` has no result that the
+-- event can use, or if the work is not an event
 abbrev pub asked_on : (cpu : ℕ) → (earlier : List Line) → (place : ℕ) → Line → asks.Meaning → Option OwnWork
 asked_on cpu earlier place line (asks.event e) =
     if line_opens cpu line then option_map (on_begun cpu earlier place) (work_in e)
@@ -73,8 +73,9 @@ asked_on cpu earlier place line (asks.event e) =
     then Some (Free (count_by (line_allocs cpu) (take place earlier))) else None)
 asked_on cpu earlier place line m = None
 
--- the work of the line at index `place` on the result of its source, which is another line. `None`
--- if it has no source, or if the source is not an earlier line of this processor with such a result
+-- what the line at index `place`, whose work is `m`, does with the result of its source (the line whose
+-- result it works on). `None` without a source, or if the source is not an earlier line of this
+-- processor with a result that `m` can use
 abbrev pub named_at : (cpu : ℕ) → List Line → (sources : List (Option ℕ)) → (place : ℕ) → asks.Meaning
     → Option OwnWork
 named_at cpu lines sources place m =

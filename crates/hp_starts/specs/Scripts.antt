@@ -18,7 +18,7 @@ use Rattle.hp_starts.specs.Results.{named_at}
 use Rattle.hp_starts.specs.declared.begins.Begin.{Begin}
 
 -- the work of an event on operation 0, which in a script is the operation that its processor began
--- last; `None` if the event works on no operation or another
+-- last; `None` if the event works on no operation or on another one
 abbrev pub own_work : Event → Option own.StepWork
 own_work (event.DrainFor op cpu) = if op == 0 then Some (DrainFor cpu) else None
 own_work (event.Migrate op) = if op == 0 then Some Migrate else None

@@ -12,8 +12,8 @@ use Rattle.hp_starts.specs.declared.begins.Begin.{Begin}
 abbrev pub begins_sealed : MachineValue → Work → List Begin
 begins_sealed m w = if asks.is_seal w then begins_in m.history else []
 
--- the lines were run in order; `before` and `after` are the Begins that were sealed before these
--- lines, and those that were sealed when they had run
+-- running the lines in order leads from one machine to the machine `new`. `before` are the Begins that
+-- were sealed before these lines, and `after` are these and the Begins that the lines sealed
 abbrev pub RunsLines : MachineValue → (before : List Begin) → List Line → (new : MachineValue)
     → (after : List Begin) → Type 0
 RunsLines m before [] new after = (new ≡ m) × (after ≡ before)

@@ -13,12 +13,13 @@ ghost use Rattle.hp_starts.specs.Results.{named_at};
 ghost use Rattle.hp_starts.specs.Scripts.{script_of};
 ghost use Rattle.hp_starts.specs.declared.begins.Begin.{Begin};
 
-/// In each interleaving, a line with a name works on the result that the named line got in this
-/// interleaving.
+/// A line that names the result of an earlier line works, in each interleaving, on the result that
+/// the earlier line got in this interleaving.
 ///
-/// The line at `place` works on the result of the line at `source`. After a schedule, a processor
-/// has made its calls for exactly its lines before `place`. Then its next call is the event of the
-/// line at `place`, with the result of its call for the line at `source` in place of the number.
+/// Suppose that a processor's line at index `place` works on the result of its line at `source`. If
+/// the processor, after a schedule, has made its calls for exactly its lines before `place`, then
+/// its next call is the event of the line at `place`, with the result of its call for the line at
+/// `source` as the operation or the frame.
 pub fn names_are_results()
     ensures { (g : Setting) (schedule : List ℕ) (news : List Record) (begins : List Begin)
         (lines : List Line) (sources : List (Option ℕ)) (cpu place source : ℕ) (line : Line)

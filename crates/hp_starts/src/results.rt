@@ -15,8 +15,8 @@ use hp_schedules::{OwnWork, StepWork};
 use hp_units::{Cpu, Event, mark_of};
 use std::alloc::{AllocError, Global};
 
-/// Returns, for each line after the setup, its source: the line whose result it works on. A source
-/// is an index among the lines after the setup, and one in the setup becomes `None`.
+/// Returns the entries of `sources` for the lines after the setup, as indices among these lines. A
+/// source is the line whose result another line works on; a source in the setup becomes `None`.
 pub(crate) fn sources_after(
     alloc: Global,
     sources: &[Option<usize>],
@@ -48,11 +48,12 @@ fn place_after(source: Option<usize>, setup: u64) -> Option<usize>
     }
 }
 
-/// Returns the work of the line at `place` on the result of its source, which is another line.
-/// Returns `None` if it has no source, or if the source is not an earlier line of the processor
-/// that has such a result.
+/// Returns what the line at `place`, whose work is `work`, does with the result of its source (the
+/// line whose result it works on). Returns `None` without a source, or if the source is not an
+/// earlier line of this processor with a result that `work` can use.
 ///
-/// May fail as if out of memory if more than `u32::MAX` lines before `place` have results.
+/// May fail as if out of memory if more than `u32::MAX` lines before `place` begin operations or
+/// ask for kernel blocks.
 pub(crate) fn named_at(
     cpu: Cpu,
     lines: &[Line],

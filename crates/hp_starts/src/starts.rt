@@ -15,7 +15,7 @@ use hp_schedules::CallScript;
 use hp_units::Layout;
 use std::alloc::{AllocError, Global};
 
-/// The start of a search: a machine, and the scripts of the calls that it will make.
+/// The start of a search: the machine after the setup, and the scripts of the later lines.
 pub struct Start {
     /// The machine after the setup.
     pub machine: Machine,

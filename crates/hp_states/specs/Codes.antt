@@ -19,8 +19,8 @@ state_code l m =
 abbrev pub KeepCodes : (old new : List (List ℕ)) → Type 0
 KeepCodes old new = (n : ℕ) (c : List ℕ) → slice_get old n ≡ Some c → slice_get new n ≡ Some c
 
--- `number` belongs to the state's code, and the state's lists have the lengths that the layout gives
--- them
+-- `codes` has the state's code under `number`, and the state's lists have the lengths that the
+-- layout gives them
 pub record IsCoded (l : LayoutParts) (codes : List (List ℕ)) (number : ℕ) (m : Memory) : Type 0 where
   pub code : slice_get codes number ≡ Some (state_code l m)
   pub shaped : IsShaped l m

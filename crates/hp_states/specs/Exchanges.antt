@@ -29,12 +29,13 @@ at_end e xs = xs ++ exchange_of e ∷ []
 abbrev pub chains_of : List Exchange → List (List Receipt)
 chains_of entries = lists_from exchange_below at_end entries
 
--- `number` belongs to the transcript `below` with one more exchange
+-- transcript `number` of `new` is transcript `below` of `old` with the exchange `x` at its end
 abbrev pub IsChained : (old new : List (List Receipt)) → Receipt → (below number : ℕ) → Type 0
 IsChained old new x below number =
     (xs : List Receipt) → slice_get old below ≡ Some xs → slice_get new number ≡ Some (xs ++ x ∷ [])
 
--- `before` is the number of the transcript without its last exchange
+-- `before` is the number of transcript `number` without its last exchange. Nothing is stated of an
+-- empty transcript
 abbrev pub IsBefore : (chains : List (List Receipt)) → (number before : ℕ) → Type 0
 IsBefore chains number before =
     (xs : List Receipt) (x : Receipt) → slice_get chains number ≡ Some (xs ++ x ∷ [])
@@ -49,7 +50,7 @@ pub record ExchangesValue : Type 0 where
 abbrev pub AreAmong : (chains : List (List Receipt)) → (numbers : List ℕ) → Type 0
 AreAmong chains numbers = (k n : ℕ) → slice_get numbers k ≡ Some n → n < length chains
 
--- the number belongs to this processor's transcript after the new records
+-- `number` is the number of this processor's transcript after the new records
 abbrev pub IsExchanged : (chains : List (List Receipt)) → (cpu : ℕ) → List Record → (number : ℕ) → Type 0
 IsExchanged chains cpu news number = slice_get chains number ≡ Some (exchanges cpu news)
 

@@ -78,8 +78,8 @@ IsEntered g news part old new (Open frame) =
     (new ≡ old) × (frame ≡ record { next = 0; is_over = true; start = length old.trail })
     × IsFrame g part news new frame
 
--- the place is treated as IsEntered states, in the search of each part to which all schedules from
--- the place belong, and which is walked up to the place
+-- for each part: if all schedules from the place belong to it, and everything of the part before the
+-- place is walked, then the place is treated as IsEntered states
 abbrev pub IsEnteredWithin : Setting → List Record → (old new : TallyValue) → Entry → Type 0
 IsEnteredWithin g news old new entry =
     (part : PartValue) → AllOfPart (length g.scripts) part (schedule_of news)
@@ -87,8 +87,8 @@ IsEnteredWithin g news old new entry =
 
 -- ---- a walk that reaches a place or leaves it
 
--- a schedule leads to this place with this memory and these positions. The stored places are right,
--- and the memo's numbers belong to this place
+-- a schedule leads to this place with this memory and these positions. The stored places are right, and
+-- the memo has the numbers of this place
 pub record IsStood (g : Setting) (news : List Record) (memory : MemoryValue) (cursors : List Cursor)
     (ends : List Ending) (memo : MemoValue) : Type 0 where
   pub place : IsPlace g news memory cursors

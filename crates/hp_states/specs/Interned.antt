@@ -1,7 +1,7 @@
 -- Interned lists, each made by an entry from an earlier list.
 use Rattle.std.specs.Prelude.{◌≡◌, ℕ, ◌≤◌, List, [], ◌∷◌, ◌++◌, Some, fold, slice_get, slice_index_or}
 
--- the lists with one more, which the entry makes from the list with the number `below`
+-- the lists with one more, which the entry `e` makes from list `below e`
 abbrev pub with_entry : {E X : Type 0} → (below : E → ℕ) → (put : E → List X → List X)
     → List (List X) → E → List (List X)
 with_entry below put lists e = lists ++ put e (slice_index_or lists (below e) []) ∷ []
@@ -11,7 +11,7 @@ abbrev pub lists_from : {E X : Type 0} → (below : E → ℕ) → (put : E → 
     → List (List X)
 lists_from below put entries = fold (with_entry below put) ([] ∷ []) entries
 
--- each entry is made from an earlier list
+-- each entry makes its list from an earlier list
 abbrev pub StandOnEarlier : {E : Type 0} → (below : E → ℕ) → List E → Type 0
 StandOnEarlier {E = E} below entries = (i : ℕ) (e : E) → slice_get entries i ≡ Some e → below e ≤ i
 

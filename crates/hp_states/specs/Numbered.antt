@@ -35,22 +35,22 @@ openings_of entries = lists_from entry_below in_front entries
 abbrev pub IsEntryOf : List (List NumberedOpening) → (number : ℕ) → Entry → Type 0
 IsEntryOf lists number entry = IsMadeOf entry_below in_front lists number entry
 
--- `number` belongs to the list `below` with the operation `op` in front; `state` is the number of
--- the state before its Begin
+-- list `number` of `new` is list `below` of `old` with the operation `op` in front; `state` is the
+-- number of the state before its Begin
 abbrev pub IsInFront : (old new : List (List NumberedOpening)) → (op state below number : ℕ) → Type 0
 IsInFront old new op state below number =
     (os : List NumberedOpening) → slice_get old below ≡ Some os
     → slice_get new number ≡ Some (record { op = op; memory = state } ∷ os)
 
--- either `number` is None, or it belongs to the list `was` with the operation `op` in front; `from`
--- is the number of the state before its Begin
+-- either `number` is None; or `was` and `from` are known, and `number` is that of list `was` with the
+-- operation `op` in front. `from` is the number of the state before its Begin
 abbrev pub IsBegun : (old new : List (List NumberedOpening)) → (op : ℕ)
     → (from was number : Option ℕ) → Type 0
 IsBegun old new op from was None = Unit {0}
 IsBegun old new op from was (Some n) =
     (below : ℕ) × (state : ℕ) × (was ≡ Some below) × (from ≡ Some state) × IsInFront old new op state below n
 
--- `number` belongs to the list that `f` makes of the list `was`; it is None if that list is unknown
+-- `number` is that of the list that `f` makes of list `was`; it is None if `was` is None
 abbrev pub IsMadeBy : (List NumberedOpening → List NumberedOpening) → List (List NumberedOpening)
     → (was number : Option ℕ) → Type 0
 IsMadeBy f lists None number = number ≡ None
@@ -60,7 +60,8 @@ IsMadeBy f lists (Some n) number =
 
 -- ---- the meaning of numbers at a place
 
--- both lists have the same operations, and the numbers in the first belong to the states in the second
+-- both lists have the same operations in the same order, and the numbers in the first are those of the
+-- states in the second
 abbrev pub AreNamed : LayoutParts → (codes : List (List ℕ)) → List NumberedOpening → List Opening → Type 0
 AreNamed l codes [] [] = Unit {0}
 AreNamed l codes [] (o ∷ os) = ⊥
@@ -68,15 +69,16 @@ AreNamed l codes (n ∷ ns) [] = ⊥
 AreNamed l codes (n ∷ ns) (o ∷ os) =
     (n.op ≡ o.op) × IsCoded l codes n.memory o.memory × AreNamed l codes ns os
 
--- the number, if it is known, belongs to the state after the new records; `p` renumbers the operations
+-- the number under which `codes` has the state after the new records, with its operations renumbered by
+-- `p`. None means that the number is unknown
 abbrev pub IsStateAt : (p : ℕ → ℕ) → Setting → (codes : List (List ℕ)) → (news : List Record) → Option ℕ
     → Type 0
 IsStateAt p g codes news None = Unit {0}
 IsStateAt p g codes news (Some n) =
     IsCoded g.layout codes n (renumbered p (value_of g.layout g.base (g.start ++ news)))
 
--- the number belongs to the list of operations that a Cancel can undo after the new records; None
--- means that it is unknown. `p` renumbers the operations
+-- the number under which `lists` has the operations that a Cancel can undo after the new records, with
+-- all operations renumbered by `p`. None means that the number is unknown
 abbrev pub IsNumbered : (p : ℕ → ℕ) → Setting → (codes : List (List ℕ)) → List (List NumberedOpening)
     → (news : List Record) → Option ℕ → Type 0
 IsNumbered p g codes lists news None = Unit {0}
@@ -85,8 +87,8 @@ IsNumbered p g codes lists news (Some n) =
     × AreNamed g.layout codes ns (map (renumbered_opening p) os)
     × AreOpen g.layout g.base (net_of (g.start ++ news)) os
 
--- `number` belongs to the list after a change to the list `was`; `from` is the number of the state
--- before the change, and `serial` the operation that the change begins
+-- `number` is that of the list after a change to list `was`. `from` is the number of the state before
+-- the change, and `serial` the operation that the change begins
 abbrev pub IsChanged : (old new : List (List NumberedOpening)) → (from : Option ℕ) → (serial : ℕ) → Change
     → (was number : Option ℕ) → Type 0
 IsChanged old new from serial Stays was number = (new ≡ old) × (number ≡ was)

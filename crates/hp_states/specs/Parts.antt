@@ -39,7 +39,8 @@ wish_number OffWish = 1
 wish_number NormalWish = 2
 wish_number MovableWish = 3
 
--- the bytes of a claim: its wish, then its operation, divided by 2, as remainder and quotient
+-- the bytes of a claim: its wish, then its operation modulo 2, then half of its operation, rounded down.
+-- Without a claim, one byte 0
 abbrev pub claim_code : Option Claim → List ℕ
 claim_code None = 0 ∷ []
 claim_code (Some claim) = wish_number claim.wish ∷ claim.op % 2 ∷ number_code (claim.op / 2)

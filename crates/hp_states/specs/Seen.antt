@@ -82,6 +82,6 @@ abbrev pub IsKeptMore : List Share → (old new : MemoValue) → Type 0
 IsKeptMore shares old new =
     new ≡ record old { keys = old.keys ++ old.key ∷ []; rows = old.rows ++ shares ∷ [] }
 
--- if places are kept, the numbers belong to the place after the new records
+-- if `is_on` is true, the memo has the numbers of the place after the new records
 abbrev pub IsOnWay : Setting → List Record → MemoValue → Type 0
 IsOnWay g news memo = memo.is_on ≡ true → IsStanding g news memo.standing

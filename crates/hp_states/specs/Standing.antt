@@ -19,7 +19,7 @@ pub record StandingValue : Type 0 where
 abbrev pub plainly : List Record → ℕ → ℕ
 plainly news op = number_of 0 [] op
 
--- the numbers belong to the place after the new records
+-- `s` has the numbers of the place after the new records, and of the places before it
 pub record IsStanding (g : Setting) (news : List Record) (s : StandingValue) : Type 0 where
   pub stops : AreStopsAt plainly g news s.stops
   pub exchanged : AreExchanged g news s.exchanged
@@ -29,7 +29,7 @@ pub record KeepMeanings (old new : StandingValue) : Type 0 where
   pub stops : KeepStops old.stops new.stops
   pub chains : KeepNumbers old.exchanged.chains new.exchanged.chains
 
--- all numbers keep their meaning; only the place differs
+-- all numbers keep their meaning; only the place may differ
 abbrev pub AreSameNumbers : (old new : StandingValue) → Type 0
 AreSameNumbers old new =
     AreSameStops old.stops new.stops × (new.exchanged.chains ≡ old.exchanged.chains)

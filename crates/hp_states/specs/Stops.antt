@@ -11,8 +11,9 @@ use Rattle.hp_schedules.specs.declared.changes.Change.TheVariants.{Ends}
 use Rattle.hp_schedules.specs.Schedules.{Setting}
 use Rattle.hp_states.specs.declared.stops.Stop.{Stop}
 
--- what each number of a state, and each number of a list of operations that a Cancel can undo,
--- means. Then the numbers of the current place, and of the places before it on the path
+-- `codes` has the states' codes by number, and `lists` has the lists of operations that a Cancel can
+-- undo, by number. `here` has the numbers of the current place, and `before` has those of the places
+-- before it on the path
 pub record StopsValue : Type 0 where
   pub codes : List (List ℕ)
   pub lists : List (List NumberedOpening)
@@ -36,7 +37,8 @@ AreStops at g codes lists news (stop ∷ stops) =
     × ((before : List Record) (r : Record) → news ≡ before ++ r ∷ []
     → AreStops at g codes lists before stops)
 
--- the numbers belong to the place after the new records, and to the places before it
+-- `s` has the numbers of the place after the new records, and of the places before it, as far as
+-- they are known
 abbrev pub AreStopsAt : (at : List Record → ℕ → ℕ) → Setting → (news : List Record) → StopsValue → Type 0
 AreStopsAt at g news s = AreStops at g s.codes s.lists news (s.here ∷ reverse s.before)
 
@@ -52,6 +54,6 @@ pub record KeepStops (old new : StopsValue) : Type 0 where
   pub codes : KeepCodes old.codes new.codes
   pub lists : KeepNumbers old.lists new.lists
 
--- all numbers keep their meaning; only the place differs
+-- all numbers keep their meaning; only the place may differ
 abbrev pub AreSameStops : (old new : StopsValue) → Type 0
 AreSameStops old new = (new.codes ≡ old.codes) × (new.lists ≡ old.lists)

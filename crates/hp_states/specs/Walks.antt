@@ -95,8 +95,8 @@ abbrev pub IsOverBelow : Setting → List Record → (below : ℕ) → Bool → 
 IsOverBelow g news below true = (cpu : ℕ) → cpu < below → next_call g cpu news ≡ None
 IsOverBelow g news below false = (cpu : ℕ) × (event : Event) × (next_call g cpu news ≡ Some event)
 
--- either a schedule of the part ends after the new records (true), or a script has a call to make
--- there, or the schedule belongs to another part (false)
+-- if `is_end` is true, a schedule of the part ends after the new records. If it is false, a script has a
+-- call to make there, or the schedule ends there and belongs to another part
 abbrev pub IsEndHere : Setting → PartValue → List Record → (is_end : Bool) → Type 0
 IsEndHere g part news true =
     IsOverBelow g news (length g.scripts) true × IsOfPart (length g.scripts) part (schedule_of news)

@@ -27,7 +27,7 @@ use std::alloc::{AllocError, Global};
 /// the next schedule and ends there.
 ///
 /// A place with too few calls to decide the part is always walked, since schedules of other parts
-/// continue from it. Its state still gets a number, because operations that begin there can be
+/// may continue from it. Its state still gets a number, because operations that begin there can be
 /// cancelled back to it.
 pub fn arrive<W: Watch>(
     alloc: Global,
@@ -123,8 +123,8 @@ fn add_shares<W: Watch>(
     Ok(Entry::Counted)
 }
 
-/// Counts the schedule that led to this place if `is_end` is true: a schedule of the part then ends
-/// here.
+/// Counts the schedule that led to this place, if `is_end` states that a schedule of the
+/// part ends here.
 pub fn note<W: Watch>(
     alloc: Global,
     records: &[Record],

@@ -14,8 +14,8 @@ use std::marker::Model;
 
 /// A table that interns states: it stores each state's code and gives it a number, from 0 on.
 ///
-/// A search compares and keeps these numbers in place of whole states. The contract sees the table
-/// as the list of codes.
+/// A search compares and keeps these numbers in place of whole states. In contracts, the table's
+/// value is the list of codes.
 pub struct Codes {
     written: Code,
     texts: Texts,
@@ -51,9 +51,9 @@ impl Codes {
     }
 
     /// Returns the number of the memory's state, and adds the state if it is not found. In the
-    /// stored state, operations have the numbers of [`number_of`](hp_renumbering::number_of). So
-    /// two states that differ only in the numbers of the operations in `latest` nearly always share
-    /// a number.
+    /// stored state, operations have the numbers of [`number_of`](hp_renumbering::number_of). So if
+    /// two states differ only in the numbers of operations that are in `latest` and above `fixed`,
+    /// they nearly always share a number.
     ///
     /// If memory runs out, all earlier numbers still mean the same states.
     pub fn number_of(

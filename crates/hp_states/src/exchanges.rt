@@ -13,7 +13,8 @@ use indexmap::IndexMap;
 use std::alloc::{AllocError, Global};
 use std::marker::Model;
 
-/// An exchange, which is a request and its reply, at the end of the transcript numbered `below`.
+/// The last exchange of a transcript: a request and the reply to it. `below` is the number of the
+/// transcript without this exchange.
 #[derive(Drop)]
 pub(crate) struct Exchange {
     event: Event,
@@ -131,7 +132,8 @@ impl Chains {
         }
     }
 
-    /// Returns the number of the transcript without its last exchange, or 0 if it is empty.
+    /// Returns the number of the transcript that has all but the last exchange of transcript
+    /// `number`. Returns 0 if transcript `number` is empty or does not exist.
     fn before(&self, number: usize) -> usize
         ensures before { IsBefore self.now number result }
         ensures within { result < length self.now }

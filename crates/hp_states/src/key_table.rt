@@ -12,7 +12,7 @@ use std::marker::Model;
 /// Keys, which are rows of numbers, stored one after another, with the end of each.
 ///
 /// `latest` maps a hash to the newest key that has it, unless memory ran out when a later one was
-/// added. The contract sees the table as the list of keys.
+/// added. In contracts, the table's value is the list of keys.
 pub struct KeyTable {
     numbers: Vec<u32>,
     ends: Vec<usize>,
@@ -69,7 +69,7 @@ impl KeyTable {
         if kept == key { Some(*at) } else { None }
     }
 
-    /// Adds a key and returns its index. If memory runs out, the table is unchanged.
+    /// Adds a key and returns its index. If memory runs out, the keys stay as they were.
     pub fn add(&mut self, key: &[u32]) -> Result<usize, AllocError>
         ensures ok { OnOk result (self.new ≡ self.old ++ key.now ∷ []) }
         ensures at { IfOk result (λ at. at ≡ length self.old) }
@@ -94,7 +94,8 @@ impl KeyTable {
     }
 }
 
-/// Returns one key from the row of numbers, if there is one with this index.
+/// Returns the key at index `at`, if there is one. `numbers` has all keys, one after another, and
+/// `ends` has the end of each.
 fn key_in<'a>(numbers: &'a [u32], ends: &[usize], at: usize) -> Option<&'a [u32]>
     ensures { IfSome result (λ key. slice_get (texts_from numbers.now 0 ends.now) at ≡ Some key.now) }
 {

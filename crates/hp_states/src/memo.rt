@@ -123,8 +123,8 @@ impl Memo {
 
     /// Numbers the state at the place, writes the place's key, and returns whether it has one.
     ///
-    /// It has none if no places are stored, if it is unknown which operations a Cancel can take
-    /// back, or if a number does not fit 32 bits.
+    /// It has none if `is_on` is false, if it is unknown which operations a Cancel can take back,
+    /// or if a number does not fit 32 bits.
     pub(crate) fn come_to(
         &mut self,
         alloc: Global,
@@ -158,8 +158,8 @@ impl Memo {
         self.standing.size().saturating_add(places)
     }
 
-    /// Writes the key of the place where the walk is, after `come_to`, and returns whether it has
-    /// one.
+    /// Writes the key of the place where the walk is, and returns whether it has one. It has none
+    /// if `come_to` has not numbered the state there, or for a reason given at `come_to`.
     pub(crate) fn write_key(
         &mut self,
         positions: &Positions,

@@ -245,7 +245,8 @@ fn put_claim(
     }
 }
 
-/// Appends the number of an operation: whether it is odd, and its half.
+/// Appends the number that `number_of` gives to an operation: 1 if it is odd and 0 if it is even,
+/// then half of it, rounded down.
 fn put_op(code: &mut Code, op: Serial, fixed: Serial, latest: &[Serial]) -> Result<(), AllocError>
     ensures { OnOk result (code.new ≡ code.old ++ number_of fixed latest.now op % 2
         ∷ number_code (number_of fixed latest.now op / 2)) }

@@ -188,8 +188,8 @@ impl Openings {
         0
     }
 
-    /// Returns the entry that made a list, or `None` if the list is empty or there
-    /// is no such number.
+    /// Returns the entry that added list `number`. Returns `None` for list 0, which is empty, and
+    /// for a number that no list has.
     fn entry(&self, number: usize) -> Option<&Entry>
         ensures some { IfSome result (λ entry. IsEntryOf self.now number entry.now) }
         ensures none { IfNone result ((os : List NumberedOpening)

@@ -6,8 +6,8 @@ use hp_schedules::Share;
 use std::alloc::{AllocError, Global};
 use std::marker::Model;
 
-/// Rows of `Share`s, which count the schedules from a place to each end, all in one buffer. The
-/// model is the list of rows.
+/// Rows of `Share`s, which count the schedules from a place to each end, all in one buffer. In
+/// contracts, the value is the list of rows.
 pub struct Rows {
     shares: Vec<Share>,
     ends: Vec<usize>,

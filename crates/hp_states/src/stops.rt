@@ -176,8 +176,8 @@ impl Stops {
     }
 }
 
-/// Returns the number of the list at the beginning: the empty list if the history is closed,
-/// otherwise unknown.
+/// Returns the number of the list of cancellable operations where the scripts begin: 0, the empty
+/// list, if the history is closed. Otherwise returns `None`, because the list is unknown.
 fn first_number(is_closed: bool) -> Option<usize>
     ensures { result ≡ cond is_closed (Some 0) None }
 {
@@ -213,7 +213,8 @@ fn openings_after(
     openings.after(was.openings, was.state, change, number)
 }
 
-/// Returns the change with the number of its operation, or `None` if that is 2^64 or greater.
+/// Returns the change with the number that `number_of` gives to its operation, or `None` if that
+/// number is 2^64 or greater.
 fn numbered(change: Change, fixed: Serial, latest: &[Serial]) -> Option<Change>
     ensures { IfSome result (λ numbered. numbered ≡ renumbered_change (number_of fixed latest.now) change) }
 {

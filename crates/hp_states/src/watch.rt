@@ -1,7 +1,7 @@
 //! What watches a search, and may end it.
 ghost use Rattle.std.specs.Prelude.{◌≡◌, false, true};
 
-/// The bytes that a search in several threads keeps at most, unless it is watched with another bound.
+/// How many bytes a search in several threads may keep, unless its watch gives another number.
 pub const KEPT_BYTES: u64 = 2_147_483_648;
 
 /// Watches a search: gets its progress, and may end it.
@@ -52,8 +52,8 @@ pub struct Reach {
 }
 
 impl Reach {
-    /// Counts a place and asks the watch whether the search goes on there. Does not ask again once
-    /// the search has ended.
+    /// Counts a place, and asks the watch whether the search goes on there. Does neither once the
+    /// watch has ended the search.
     pub fn ask<W: Watch>(&mut self, bytes: u64, watch: &mut W)
         ensures { (self.old.is_stopped ≡ true → W.has_ended watch.old)
             → self.new.is_stopped ≡ true → W.has_ended watch.new }

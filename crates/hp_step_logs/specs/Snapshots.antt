@@ -38,7 +38,7 @@ piece_in holder = piece_by (kernel_in holder) (is_some (page_in holder))
 
 -- ---- a state
 
--- what holds each frame, and the row of each memory block
+-- what holds the memory that starts at each frame, and the row of each memory block
 pub record SnapshotValue : Type 0 where
   pub holders : List FrameHolder
   pub rows : List Row

@@ -19,7 +19,7 @@ turn_events block BeginsOffline = Some (OfflineBegins block ∷ [])
 turn_events block StaysOnline = Some (OfflineEnds block false ∷ [])
 turn_events block ThroughOffline = None
 
--- the phase is not offline, so a block in it has to go offline first
+-- the phase is not `Offline`: on a turn through offline, a block in this phase goes offline
 abbrev pub goes_offline : BlockPhase → Bool
 goes_offline Offline = false
 goes_offline (GoingOnline zone) = true

@@ -20,8 +20,8 @@ pub enum FrameHolder {
 }
 
 impl FrameHolder {
-    /// Returns the holder of a frame from the kernel's block that starts there and the page that
-    /// the frame holds. If there are both, the kernel's block counts.
+    /// Makes the holder of a frame. `kernel` is the order of the kernel's block that starts there,
+    /// and `page` the page that the frame holds. If there are both, the kernel's block counts.
     pub fn new(kernel: Option<Order>, page: Option<(Owner, Page)>) -> FrameHolder
         ensures { result ≡ holder_by kernel page }
     {

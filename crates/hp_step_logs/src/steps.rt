@@ -97,7 +97,7 @@ fn push_block_events(
     Ok(())
 }
 
-/// Adds the allocs of all pieces that were not in use before.
+/// Adds the allocs of all pieces that did not stay in use.
 fn push_allocs(
     log: &mut Vec<LogEvent>,
     layout: &Layout,
@@ -145,7 +145,7 @@ fn stays(layout: &Layout, before: &Snapshot, after: &Snapshot, frame: Frame) -> 
     !before.phase(block).goes_offline(after.phase(block))
 }
 
-/// Returns the move that takes the place of a log, if the only change is that one page is at
+/// Returns the move that replaces the events of `log`, if the only change is that one page is at
 /// another frame.
 fn found_move(before: &Snapshot, after: &Snapshot, log: &[LogEvent]) -> Option<LogEvent>
     ensures { (l : LayoutParts) (s t : Memory) → Shows l s before.now → Shows l t after.now
@@ -196,7 +196,7 @@ fn movable_alloc(event: &LogEvent) -> Option<Frame>
     }
 }
 
-/// Returns whether both are the same page.
+/// Returns whether there are two pages, and they are the same.
 fn is_same_page(page: Option<(Owner, Page)>, other: Option<(Owner, Page)>) -> bool
     ensures { result ≡ same_page page other }
 {

@@ -2,7 +2,8 @@
 use Rattle.std.specs.Prelude.{ℕ, ◌≡◌, ◌+◌, ◌<◌, List, [], ◌∷◌, drop, replicate, take}
 use Rattle.hp_svg.specs.declared.runs.Run.{Run}
 
--- the runs cover the cells from place `at` on, each once, and a run has the character of its cells
+-- the runs cover these cells, the first of which has index `at`. They cover each cell once, and a
+-- run has the character of its cells
 abbrev pub Covers : (at : ℕ) → List Run → (cells : List ℕ) → Type 0
 Covers at [] cells = cells ≡ []
 Covers at (run ∷ runs) cells =

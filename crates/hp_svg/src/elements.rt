@@ -150,7 +150,8 @@ pub(crate) fn write_outline(
     )
 }
 
-/// Writes the order of a block of frames inside it, outlined in about the colour of its cells.
+/// Writes the order of a block of frames inside it, outlined in white, or for the kernel in the
+/// colour of its cells.
 pub(crate) fn write_order(
     out: &mut String,
     x: u128,

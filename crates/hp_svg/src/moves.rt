@@ -42,8 +42,8 @@ fn last_blocks(above: u128, top: u128, row: &RowPicture) -> u128
     }
 }
 
-/// Draws the lines of all moves of rows that begin at `start`. Each is drawn twice, first in white,
-/// so that it is seen on cells of any colour.
+/// Draws the lines of all moves. `start` is the y coordinate at which the first row begins. Each
+/// line is drawn twice, first in white, so that it is seen on cells of any colour.
 pub(crate) fn write_moves(
     out: &mut String,
     sheet: Sheet,

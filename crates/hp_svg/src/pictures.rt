@@ -141,7 +141,7 @@ fn write_legend(
     write_notes(out, marks.len(), has_kernel)
 }
 
-/// Draws the signs of the legend from a place on; the kernel's only if it has blocks.
+/// Draws the signs of the legend, the first at index `place`; the kernel's only if it has blocks.
 fn write_notes(out: &mut String, place: usize, has_kernel: bool) -> Result<(), AllocError>
     requires { place < 2 ^ 63 }
 {
@@ -155,7 +155,7 @@ fn write_notes(out: &mut String, place: usize, has_kernel: bool) -> Result<(), A
     write_note(out, place + 2, Sign::Move, "page that moved")
 }
 
-/// Writes a character and what it means, at a place of the legend.
+/// Writes a character and what it means, at index `place` of the legend.
 fn write_entry(
     out: &mut String,
     alloc: Global,
@@ -182,7 +182,7 @@ enum Sign {
     Move,
 }
 
-/// Writes a sign and its meaning at a place of the legend.
+/// Writes a sign and its meaning, at index `place` of the legend.
 fn write_note(out: &mut String, place: usize, sign: Sign, text: &str) -> Result<(), AllocError> {
     let left = legend_left(place);
     let top = legend_top(place);
@@ -234,8 +234,8 @@ fn write_blocks(
     Ok(())
 }
 
-/// Writes the number of each `step`th frame of a block above its cell, with the word `frame` before
-/// the first. If there is only one such number, writes the word and the number as one text.
+/// Writes above the cells of a block the number of each `step`th frame, with the word `frame`
+/// before the first. If there is only one such number, writes the word and the number as one text.
 fn write_frame_numbers(
     out: &mut String,
     alloc: Global,

@@ -193,9 +193,9 @@ impl Sheet {
         self.cells_at(block) + cells_of(self.cell, (offset + bars) as usize)
     }
 
-    /// Returns how many frames there are from one frame number above a block's cells to the next,
-    /// if the longest number has this many digits of 5 pixels. This is 1 if a cell has room for a
-    /// number, a pageblock if that has room, and otherwise the whole block.
+    /// Returns n if each n-th frame of a block gets its number above its cell. This is 1 if a cell
+    /// has room for a number, the size of a pageblock if that has room, and otherwise the size of a
+    /// block. The longest number has `digits` digits, which are 5 pixels wide.
     pub(crate) fn number_step(&self, digits: usize) -> u64
         ensures { 0 < result }
     {
@@ -269,7 +269,7 @@ impl Sheet {
     }
 }
 
-/// Returns the extra height if a text is longer than `room` letters and so needs a line of its own.
+/// Returns the extra height if a text has more than `room` bytes and so gets a line of its own.
 pub(crate) fn lines_above(room: usize, text: &str) -> u128
     ensures { result ≤ 14 }
 {
@@ -283,14 +283,14 @@ pub(crate) fn texts_height(row: &RowPicture) -> u128
     lines_above(ASKED, row.asked()) + lines_above(ANSWER, row.answer())
 }
 
-/// Returns the x coordinate of an entry of the legend, by its place.
+/// Returns the x coordinate of the entry at index `place` of the legend.
 pub(crate) fn legend_left(place: usize) -> u128
     ensures { result < 2 ^ 100 }
 {
     8 + 160 * (place as u128 % 5)
 }
 
-/// Returns the y coordinate of an entry of the legend, by its place.
+/// Returns the y coordinate of the entry at index `place` of the legend.
 pub(crate) fn legend_top(place: usize) -> u128
     ensures { result < 2 ^ 100 }
 {

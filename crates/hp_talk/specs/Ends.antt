@@ -6,15 +6,15 @@ use Rattle.hp_talk.specs.declared.hearing.Pause.TheVariants.{More}
 use Rattle.hp_talk.specs.declared.talking.TalkEnd.{TalkEnd}
 use Rattle.hp_talk.specs.declared.talking.TalkEnd.TheVariants as ends
 
--- the lines, and after them the last one, unless it is empty
+-- the lines, and after them `last`, unless it is empty
 abbrev pub with_last : List (List ℕ) → (last : List ℕ) → List (List ℕ)
 with_last lines [] = lines
 with_last lines (b ∷ bs) = lines ++ (b ∷ bs) ∷ []
 
--- the lines of `bytes`, which were read, that were replied to before the talk ended. At the end of
--- the input these are all lines, and at a line `quit` those before it. After a read that failed, or
--- after too many reads, they are all lines that end with a newline. After a write that failed, they
--- are some of the lines, from the first on
+-- of the lines in `bytes`, the bytes that were read, `lines` are those that were replied to before the
+-- talk ended. At the end of the input these are all lines, and at a line `quit` those before it. After
+-- a read that failed, or after too many reads, they are all lines that end with a newline. After a
+-- write that failed, they are some of the lines, from the first on
 abbrev pub IsEndOf : TalkEnd → (bytes : List ℕ) → (lines : List (List ℕ)) → (left : Option (List ℕ)) → Type 0
 IsEndOf ends.Input bytes lines left =
     IsAtEnd left × (front : List (List ℕ)) × (last : List ℕ) × (bytes ≡ ended front ++ last)
@@ -26,7 +26,7 @@ IsEndOf ends.WriteFailed bytes lines left =
     (beyond : List ℕ) × (bytes ++ newline ∷ [] ≡ ended lines ++ beyond)
 IsEndOf ends.Worn bytes lines left = (last : List ℕ) × (bytes ≡ ended lines ++ last) × IsWhole last
 
--- lines were replied to, and all replies sent; after a write that failed, a beginning of them
+-- lines were replied to, and all replies were sent; after a write that failed, only a beginning of them
 abbrev pub IsSaid : {S : Type 0} → (replies : S → List ℕ → List ℕ → S → Type 0) → TalkEnd → (old : Desk S)
     → (lines : List (List ℕ)) → (new : Desk S) → Type 0
 IsSaid replies ends.WriteFailed old lines new = Fails replies old lines new
@@ -69,7 +69,7 @@ BlockHeard replies None old line block new held = Hears replies More old (line +
 BlockHeard replies (Some end) old line block new held =
     (input left : Option (List ℕ)) → Consumes input left block → Ends replies end old line input left new
 
--- the talk ended with the input, whose last line, without a newline, is `line`
+-- the input is at its end, and the talk ended. `line` is what comes after the last newline
 abbrev pub LastHeard : {S : Type 0} → (replies : S → List ℕ → List ℕ → S → Type 0) → TalkEnd → (old : Desk S)
     → (line : List ℕ) → (new : Desk S) → Type 0
 LastHeard replies end old line new =
@@ -88,8 +88,7 @@ IsWriteCalm None failures now = now ≡ failures
 IsWriteCalm (Some ends.WriteFailed) failures now = failures < now
 IsWriteCalm (Some end) failures now = ⊤
 
--- so far bytes were read, their lines were replied to, and the replies were sent, or wait to be
--- sent
+-- bytes were read so far, their lines were replied to, and the replies were sent, or wait to be sent
 pub record GoesOn {S : Type 0} (replies : S → List ℕ → List ℕ → S → Type 0) (old : Desk S)
     (input left : Option (List ℕ)) (new : Desk S) (held : HeldValue) : Type 0 where
   pub bytes : List ℕ

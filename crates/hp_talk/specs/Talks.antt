@@ -84,7 +84,7 @@ pub record Breaks (before : Option (List ℕ)) (was text : List ℕ) (after : Op
   pub appended : Appends before after now
   pub is : now ++ beyond ≡ was ++ text
 
--- whoever replies, what a sink has, and what waits to be sent to it
+-- the talk (whoever replies to lines), what a sink has, and what waits to be sent to it
 pub record Desk (S : Type 0) : Type 0 where
   pub talk : S
   pub sent : Option (List ℕ)
@@ -100,7 +100,7 @@ pub record Says {S : Type 0} (replies : S → List ℕ → List ℕ → S → Ty
   pub replied : replies old.talk line text new.talk
   pub sends : Sends old.sent old.waiting text new.sent new.waiting
 
--- a line was replied to; of what waited and the reply, a beginning was sent before a write failed
+-- a line was replied to. A beginning of the waiting bytes and the reply was sent, before a write failed
 pub record Misses {S : Type 0} (replies : S → List ℕ → List ℕ → S → Type 0) (old : Desk S) (line : List ℕ)
     (new : Desk S) : Type 0 where
   pub text : List ℕ
@@ -115,7 +115,8 @@ pub record Answers {S : Type 0} (replies : S → List ℕ → List ℕ → S →
   pub replied : AreReplies replies old.talk lines text new.talk
   pub sends : Sends old.sent old.waiting text new.sent new.waiting
 
--- lines were replied to; of what waited and the replies, a beginning was sent before a write failed
+-- lines were replied to. A beginning of the waiting bytes and the replies was sent,
+-- before a write failed
 pub record Fails {S : Type 0} (replies : S → List ℕ → List ℕ → S → Type 0) (old : Desk S)
     (lines : List (List ℕ)) (new : Desk S) : Type 0 where
   pub turns : All IsTurn lines
@@ -134,8 +135,8 @@ HearsLine replies More old line new held =
 HearsLine replies Quit old line new held = (line ≡ quit) × (new ≡ old)
 HearsLine replies Broken old line new held = (line ≢ quit) × Misses replies old line new
 
--- the lines of `bytes` were replied to: either all that end in it, and `held` has the beginning of
--- the next; or those before a line `quit`; or some, before a write failed
+-- the lines of `bytes` were replied to: all that end there, and `held` has the beginning of the next;
+-- or those before a line `quit`; or some, before a write failed
 abbrev pub Hears : {S : Type 0} → (replies : S → List ℕ → List ℕ → S → Type 0) → Pause → (old : Desk S)
     → (bytes : List ℕ) → (new : Desk S) → HeldValue → Type 0
 Hears replies More old bytes new held =

@@ -6,7 +6,7 @@ use std::alloc::{AllocError, Global};
 
 /// Replies to lines.
 pub trait Talk {
-    /// What may be replied to a line, and what that makes of the talk.
+    /// The line may get this reply, which turns the first talk into the second.
     ghost replies: { Self → (line : List ℕ) → (reply : List ℕ) → Self → Type 0 };
 
     /// What is replied if memory runs out.
@@ -16,8 +16,8 @@ pub trait Talk {
     fn lost(&self) -> &'static str
         ensures { result.now ≡ lost_text };
 
-    /// Appends the reply to a line, which may be no UTF-8. After an error nothing was appended, and
-    /// the reply is the text of `lost`: memory ran out.
+    /// Appends the reply to a line, which need not be UTF-8. An error means that memory ran out:
+    /// nothing was appended, and the reply is the text of `lost`.
     fn reply(&mut self, alloc: Global, line: &[u8], out: &mut Vec<u8>) -> Result<(), AllocError>
         ensures ok { OnOk result
             (RepliesTo replies self.old line.now out.old.items self.new out.new.items) }

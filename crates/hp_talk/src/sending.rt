@@ -29,7 +29,7 @@ fn send_all<W: Sink>(writer: &mut W, bytes: &[u8]) -> Result<(), Failed>
     Ok(())
 }
 
-/// Sends all that waits.
+/// Sends all bytes of `out`, which waited to be sent, and empties it.
 pub(crate) fn send<W: Sink>(writer: &mut W, out: &mut Vec<u8>) -> Result<(), Failed>
     requires { W.failures writer.old < 2 ^ 64 - 1 }
     ensures ok { OnOk result (Appends (W.contents writer.old) (W.contents writer.new) out.old.items) }
@@ -44,7 +44,7 @@ pub(crate) fn send<W: Sink>(writer: &mut W, out: &mut Vec<u8>) -> Result<(), Fai
     Ok(())
 }
 
-/// Sends what waits, if it is at least `MUCH` bytes.
+/// Sends the bytes of `out`, which wait to be sent, if they are at least `MUCH`.
 fn send_much<W: Sink>(writer: &mut W, out: &mut Vec<u8>) -> Result<(), Failed>
     requires { W.failures writer.old < 2 ^ 64 - 1 }
     ensures ok { OnOk result (Sends (W.contents writer.old) out.old.items []
@@ -60,7 +60,7 @@ fn send_much<W: Sink>(writer: &mut W, out: &mut Vec<u8>) -> Result<(), Failed>
     send(writer, out)
 }
 
-/// Sends what waits, and a text after it.
+/// Sends the bytes of `out`, which waited to be sent, and a text after them.
 fn send_with<W: Sink>(writer: &mut W, out: &mut Vec<u8>, text: &str) -> Result<(), Failed>
     requires { W.failures writer.old < 2 ^ 64 - 1 }
     ensures ok { OnOk result (Sends (W.contents writer.old) out.old.items text.now

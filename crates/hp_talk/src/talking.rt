@@ -29,8 +29,8 @@ pub enum TalkEnd {
     Worn,
 }
 
-/// Replies to each line that the reader gives, and writes the replies, until the talk ends. What was
-/// written is sent before more is read, so who waits for a reply gets it.
+/// Replies to each line that the reader gives, and writes the replies, until the talk ends. What
+/// was written is sent before more is read, so whoever waits for a reply gets it.
 ///
 /// The last line may lack its newline. An empty line is a line. Fails if there is no memory for its
 /// buffers; nothing was read then.

@@ -10,7 +10,7 @@ use Rattle.hp_units.specs.declared.rows.Pool.{Pool}
 use Rattle.hp_units.specs.declared.rows.Zone.{Zone}
 use Rattle.hp_units.specs.Rows.{blocks_of}
 
--- ---- of the layers' calls
+-- ---- the most deltas of a layer's call
 
 -- taking a block
 abbrev pub take_bound : LayoutParts → ℕ
@@ -41,8 +41,8 @@ take_one_from l (frame ∷ frames) = 1
 abbrev pub take_one_bound : LayoutParts → FreeFrames → (cpu : ℕ) → Pool → ℕ
 take_one_bound l fs cpu pool = take_one_from l (cached_list fs cpu pool)
 
--- giving one frame back: straight to the areas if its pageblock is isolated; otherwise one delta,
--- or `batch_bound` if the list gets longer than `high`
+-- giving one frame back: `give_bound` if its pageblock is isolated; otherwise one delta, or
+-- `batch_bound` if the list gets longer than `high`
 abbrev pub put_one_bound : LayoutParts → FreeFrames → (cpu : ℕ) → Zone → (frame : ℕ) → ℕ
 put_one_bound l fs cpu zone frame =
     let kind = kind_of fs.areas (pageblock_of l frame) in
@@ -60,7 +60,7 @@ cached_frames fs cpu =
 abbrev pub drain_bound : LayoutParts → FreeFrames → (cpu : ℕ) → ℕ
 drain_bound l fs cpu = cached_frames fs cpu * (l.order + 2)
 
--- ---- of the events
+-- ---- the most deltas of an event
 
 -- isolating or releasing a memory block
 abbrev pub moved_block_bound : LayoutParts → ℕ

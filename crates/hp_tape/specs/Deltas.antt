@@ -1,5 +1,5 @@
--- What a delta undoes, and the state as the journal sees it: the words of a page are in a buffer of
--- its frame.
+-- What undoing a delta does, and the state on which it is undone: there, the words of a page are in
+-- a buffer of its frame.
 use Rattle.std.specs.Prelude.{◌≡◌, ◌<◌, ◌≤◌, ℕ, ◌^◌, length, IfSome, Bool, true, false, not, ◌&&◌, List, [], ◌∷◌, Option, Some, None, ◌==◌, map, nat_lt, replicate, slice_get, slice_index_or, slice_set, unwrap_or, if◌then◌else◌}
 use Rattle.std.specs.List.{list_all}
 use Rattle.std.specs.Option.{option_map, option_map_or, option_and_then}
@@ -66,7 +66,7 @@ word_delta frame index was now =
 
 -- ---- undoing a delta, on each part of the state
 
--- a list with a frame put after another, or at the front
+-- a list with a frame put after another, or at the front; unchanged if the other is not on it
 abbrev pub put_behind : Option ℕ → ℕ → List ℕ → List ℕ
 put_behind None frame frames = frame ∷ frames
 put_behind (Some after) frame [] = []
@@ -165,7 +165,7 @@ abbrev pub IsFresh : FrameChange → PageFrames → Type 0
 IsFresh (Mapped frame) v = buffer_of v frame ≡ None
 IsFresh change v = Unit {0}
 
--- all words of a buffer are 0 except one
+-- there is a buffer, and its words are 0 with word `index` set to `value`
 abbrev pub HasOneWord : (index value : ℕ) → Option (List ℕ) → Type 0
 HasOneWord index value None = ⊥
 HasOneWord index value (Some words) = words ≡ slice_set (replicate (length words) 0) index value
@@ -207,7 +207,9 @@ abbrev pub IsListOf : LayoutParts → ListId → Type 0
 IsListOf l (Area class order) = order ≤ l.order
 IsListOf l (Cpu pool cpu) = cpu < l.cpus
 
--- the numbers of a delta are within the layout
+-- what a delta changes is within the layout: a list, frames, a pageblock, a page, a word or a
+-- memory block. A buffer that it holds has the layout's number of words. Nothing is required of
+-- `after`
 abbrev pub IsDeltaOf : LayoutParts → Delta → Type 0
 IsDeltaOf l (Link list frame after) = IsListOf l list × IsFrame l frame
 IsDeltaOf l (Unlink list frame after) = IsListOf l list × IsFrame l frame
@@ -250,7 +252,7 @@ IsOfPages (Filled index frame now) = Unit {0}
 IsOfPages (Emptied frame words) = Unit {0}
 IsOfPages delta = ⊥
 
--- the delta is of the rows of the memory blocks
+-- the delta is of the memory blocks: a row, or the setting for added blocks
 abbrev pub IsOfBlocks : Delta → Type 0
 IsOfBlocks (RowDelta change) = Unit {0}
 IsOfBlocks (AutoDelta was now) = Unit {0}

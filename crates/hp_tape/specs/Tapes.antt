@@ -1,4 +1,4 @@
--- What a contract sees of a tape, and what a call of a layer notes on it.
+-- The value of a tape in contracts, and what a call of a layer notes on it.
 use Rattle.std.specs.Prelude.{ℕ, ◌≡◌, ◌+◌, ◌≤◌, List, ◌++◌, length}
 use Rattle.std.specs.List.{AllByRecursion}
 use Rattle.hp_units.specs.LayoutParts.{LayoutParts}
@@ -6,12 +6,12 @@ use Rattle.hp_units.specs.Memory.{FreeAreas, FreeFrames, Blocks}
 use Rattle.hp_tape.specs.declared.deltas.Delta.{Delta}
 use Rattle.hp_tape.specs.Deltas.{PageFrames, undo_all, AllFit, IsDeltaOf, IsOfAreas, IsOfFree, IsOfPages, IsOfBlocks, FitsAreas, areas_undo, FitsFree, free_undo, FitsPages, pages_undo, FitsBlocks, blocks_undo}
 
--- the room, in deltas, and the deltas noted, oldest first
+-- how many deltas the tape can hold in all, and the deltas noted, oldest first
 pub record TapeValue : Type 0 where
   pub room : ℕ
   pub deltas : List Delta
 
--- there is room for `more` deltas
+-- there is room for `more` deltas after those noted
 abbrev pub HasRoom : TapeValue → ℕ → Type 0
 HasRoom tape more = length tape.deltas + more ≤ tape.room
 

@@ -1,4 +1,4 @@
--- What a contract sees of the change of a word.
+-- The value in contracts of the change of a word.
 use Rattle.std.specs.Prelude.{ℕ}
 
 -- a word before and after a change

@@ -6,8 +6,8 @@ ghost use Rattle.hp_tape.specs.RowChanges.{AreOfOneOperation, claim_in, row_in, 
 use hp_units::{Block, Claim, Row, Serial, State, Wish, Zone};
 use std::marker::Model;
 
-/// A memory block's rows before and after a change, in 15 bytes. A contract sees the rows
-/// themselves.
+/// A memory block's rows before and after a change, in 15 bytes. In contracts, its value is the
+/// block and the rows themselves.
 #[derive(Drop)]
 pub struct RowChange {
     block: u8,

@@ -13,7 +13,7 @@ line_entry names line = codes "\"" ++ line_text names line ++ codes "\""
 abbrev pub call_entry : (names : List (List ℕ)) → Record → List ℕ
 call_entry names r = codes "\"" ++ call_text names r.cpu r.event ++ codes "\""
 
--- the entries of calls
+-- the entries of calls, separated by `between`
 abbrev pub calls_text : (between : List ℕ) → (names : List (List ℕ)) → List Record → List ℕ
 calls_text between names calls = separated between (call_entry names) true calls
 

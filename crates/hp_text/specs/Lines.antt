@@ -9,7 +9,8 @@ use Rattle.hp_scenario.specs.declared.lines.Work.{Work}
 use Rattle.hp_scenario.specs.declared.lines.Work.TheVariants as work
 use Rattle.hp_text.specs.Spelling.{event_text, plan_text}
 
--- the work of a line, with the brackets of its own texts kept or escaped
+-- the text of a line's work. Square brackets in the word of an `echo`, and in the path of an `echo` or
+-- a `cat`, are kept or escaped
 abbrev pub shown_work : Brackets → (names : List (List ℕ)) → Work → List ℕ
 shown_work brackets names (work.Event event) = event_text names event
 shown_work brackets names (work.Plan items turns) = plan_text items turns

@@ -10,15 +10,16 @@ use indexmap::IndexSet;
 use std::alloc::AllocError;
 
 /// Writes a line as a string of a scenario's `calls`, without the quotation marks: the processor,
-/// then its work. Owners are written by name. The line's own texts are written as JSON, with each
-/// character escaped that a terminal might obey.
+/// then its work. Owners are written by name. The texts of an `echo` or a `cat` are written as in
+/// JSON, and each character that a terminal might obey is escaped.
 pub fn write_line(out: &mut String, names: &IndexSet<Text>, line: &Line) -> Result<(), AllocError>
     ensures { OnOk result (string_bytes out.new ≡ string_bytes out.old ++ line_text names.now.keys line.now) }
 {
     write_shown_line(out, names, line, Brackets::Kept)
 }
 
-/// Writes a line like `write_line`, and keeps or escapes the brackets in the line's own texts.
+/// Writes a line like `write_line`. `brackets` is how the square brackets in the texts of an `echo`
+/// or a `cat` are written.
 pub fn write_shown_line(
     out: &mut String,
     names: &IndexSet<Text>,

@@ -69,7 +69,7 @@ MakesSteps cpu m (r ∷ rs) rows after =
     × (rows ≡ drawing (step_text r.event) (answer_text r) (moved_of r.reply) next ∷ rest)
     × MakesSteps cpu next rs rest after
 
--- the fault that ended a plan's driver early, if any, is that the history is full, and it is full
+-- if a fault ended the plan's driver early, it is `HistoryFull`, and the history is full
 abbrev pub IsStop : Option CallFault → MachineValue → Type 0
 IsStop None m = ⊤
 IsStop (Some HistoryFull) m = is_full m ≡ true

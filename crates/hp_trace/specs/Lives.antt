@@ -22,7 +22,7 @@ pub record IsBegun (v : View) (s : ScenarioValue) (t : LiveValue) : Type 0 where
   pub run : MakesLines s.names 1 (booted s.layout) s.lines lists t.machine
   pub begun : IsStart Written v t.machine t.rows
 
--- a line was run, and its rows were written
+-- a line was run, and its rows were drawn if the view shows the line
 pub record LivesOn (names : List (List ℕ)) (number : ℕ) (line : Line) (old new : LiveValue) : Type 0 where
   pub same : new.view ≡ old.view
   pub traced : TracesLine old.view names number old.machine line old.rows new.rows new.machine

@@ -65,7 +65,7 @@ pub record AreJoinedTo (more : List RowValue) (old new : RowsValue) : Type 0 whe
 
 -- ---- texts
 
--- a text of lines was added, in this form
+-- a text of lines was added, in this form; `Unseen` and `Logged` add none
 abbrev pub SaysAs : Form → (text : List ℕ) → (old new : RowsValue) → Type 0
 SaysAs Unseen text old new = new ≡ old
 SaysAs Written text old new = new ≡ record old { text = old.text ++ text }
@@ -108,7 +108,7 @@ pub record AreMoreShown (entries : List RoundsValue) (old new : RowsValue) : Typ
   pub shown : AreEntriesShown entries old.text text
   pub is : new ≡ record old { text = text; kept = kept }
 
--- one more row was added, in this form
+-- one more row was added, in this form; `Unseen`, `Logged` and `Told` add none here
 abbrev pub AddsRow : Form → RowValue → (old new : RowsValue) → Type 0
 AddsRow Unseen row old new = new ≡ old
 AddsRow Written row old new = IsWritten row old new

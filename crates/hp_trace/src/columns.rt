@@ -24,7 +24,7 @@ pub(crate) fn write_row(
 }
 
 /// Returns what comes after a text in a column of this width: spaces up to the end of the column.
-/// After a text that is wider, it is a newline and `next` spaces.
+/// After a text of more than `columns` bytes, it is a newline and `next` spaces.
 fn gap_after(alloc: Global, text: &str, columns: usize, next: usize) -> Result<String, AllocError> {
     let mut gap = String::new(alloc);
     if text.len() > columns {

@@ -54,7 +54,7 @@ impl LiveTrace {
         })
     }
 
-    /// Runs a line, and adds its rows to the text.
+    /// Runs a line, and adds its rows to the text if the view shows the line.
     ///
     /// After an error some of its calls may have been made, and the text may lack rows.
     pub fn run(

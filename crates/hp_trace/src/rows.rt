@@ -182,7 +182,7 @@ impl Rows {
         self.add(alloc, row)
     }
 
-    /// Writes a row, or keeps it.
+    /// Writes, joins or keeps a row, by the form. Does nothing in a form without pictures.
     fn add(&mut self, alloc: Global, row: RowPicture) -> Result<(), AllocError>
         ensures { OnOk result (AddsRow self.old.form row self.old self.new) }
     {
@@ -225,7 +225,7 @@ impl Rows {
         }
     }
 
-    /// Adds the events that lead to the machine's memory to the log.
+    /// Adds to the log the events that lead to the machine's memory.
     fn log_row(&mut self, alloc: Global, machine: &Machine) -> Result<(), AllocError>
         ensures { OnOk result (IsRowLogged machine.now self.old self.new) }
     {

@@ -107,7 +107,7 @@ is_page owner page x = (x.owner == owner) && (x.page == page)
 abbrev pub SetsFrame : Option ℕ → Option ℕ → PageNow → Type 0
 SetsFrame was now x = x.frame ≡ now
 
--- the entries report each page of one owner whose frame changed
+-- the entries report each of the owner's pages below `count` whose frame changed
 abbrev pub OwnersPagesTold : Option Pictured → Pictured → (owner count : ℕ) → List PageNow → Type 0
 OwnersPagesTold was now owner =
     TellsBelow
@@ -133,7 +133,7 @@ is_word owner page index x = ((x.owner == owner) && (x.page == page)) && (x.inde
 abbrev pub SetsWord : ℕ → ℕ → WordNow → Type 0
 SetsWord was now x = x.word ≡ now
 
--- the entries report each word of one page that changed
+-- the entries report each word of the page that changed and has an index below `count`
 abbrev pub PagesWordsTold : (owner page : ℕ) → (was now : List ℕ) → (count : ℕ) → List WordNow → Type 0
 PagesWordsTold owner page was now =
     TellsBelow (λ index. Tells (is_word owner page index) SetsWord (word_of was index) (word_of now index))
@@ -143,7 +143,7 @@ PagesWordsTold owner page was now =
 abbrev pub NoWords : (owner page : ℕ) → List WordNow → Type 0
 NoWords owner page told = (index : ℕ) → IsSilent (is_word owner page index) told
 
--- the entries report each word of one owner's pages that changed
+-- the entries report each word that changed in the owner's pages below `count`
 abbrev pub OwnersWordsTold : Option Pictured → Pictured → (owner count : ℕ) → List WordNow → Type 0
 OwnersWordsTold was now owner =
     TellsBelow

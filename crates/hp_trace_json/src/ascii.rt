@@ -5,9 +5,9 @@ ghost use Rattle.hp_trace_json.specs.Ascii.{AddsLine, AddsPlain, IsPlain};
 use std::alloc::AllocError;
 
 /// Writes JSON as one line. Each `<`, and each character that is not printable ASCII, is written as
-/// a `\u` escape. JSON has such characters only in strings, so it means the same (RFC 8259, section
-/// 7). No string can end a `script` element or open a comment in one, and none changes how a line
-/// is shown.
+/// a `\u` escape. JSON that has such characters only in strings still means the same (RFC 8259,
+/// section 7). No string can end a `script` element or open a comment in one, and none changes how
+/// a line is shown.
 pub(crate) fn write_line(out: &mut String, json: &str) -> Result<(), AllocError>
     ensures { OnOk result (AddsLine (string_bytes out.old) (string_bytes out.new)) }
 {

@@ -28,7 +28,7 @@ pub struct StateChange {
     pub pages: Vec<PageNow>,
     /// The words of pages.
     pub words: Vec<WordNow>,
-    /// What a memory block that is added becomes.
+    /// What a memory block that is added becomes, if that changed.
     pub auto: Option<Auto>,
 }
 

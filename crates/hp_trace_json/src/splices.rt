@@ -25,8 +25,8 @@ impl Model for Splice {
     ghost view = { λ s. record { at = s.at; gone = s.gone; put = s.put.items } };
 }
 
-/// Returns the splice that turns one list into the other: all between their longest common start
-/// and end.
+/// Returns the splice that turns one list into the other. It replaces what is between their longest
+/// common start and their longest common end.
 pub fn splice_between(alloc: Global, was: &[Frame], now: &[Frame]) -> Result<Splice, AllocError>
     ensures { IfOk result (IsSplice was.now now.now) }
 {

@@ -37,8 +37,9 @@ impl NetSerials {
         self.serials.len()
     }
 
-    /// Updates the list after the call with this serial, after which `count` steps are not undone.
-    /// Adds the serial if that is more steps than before. Returns the steps that the call dropped.
+    /// Updates the list after the call with this serial. `count` is the number of steps that are
+    /// not undone now; if that is more than before, adds the serial. Returns the steps that the
+    /// call dropped.
     pub fn follow(
         &mut self,
         alloc: Global,

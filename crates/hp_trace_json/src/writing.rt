@@ -1,6 +1,6 @@
 //! The JSON of the head and of the rows.
 //!
-//! The contract of `change_object` says that it returns an object of JSON (specs/ChangeObjects).
+//! The contract of `change_object` states that it returns an object of JSON (specs/ChangeObjects).
 //! The texts of heads and rows have no such contract; they are tested.
 mod change_objects;
 mod changes;

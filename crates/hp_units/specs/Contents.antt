@@ -24,8 +24,8 @@ abbrev pub contents_of_net : LayoutParts → List (List (Option (List ℕ))) →
     → List (List (Option (List ℕ)))
 contents_of_net l contents net = fold (λ c r. contents_after l c r.event) contents net
 
--- the frame that a record hands out, or the first frame of a kernel block; `after` is the state
--- after the record
+-- the frame that a record hands out; of a kernel block it is the first frame. None if the record
+-- hands out no frame. `after` is the state after the record
 abbrev pub handed_by_reply : Memory → Event → Reply → Option Frame
 handed_by_reply after event (GivesFrame frame) = Some frame
 handed_by_reply after event (Moved from to) = Some to

@@ -24,8 +24,8 @@ next_drain cpus turns op cpu receipts =
     if nat_lt cpu cpus then DrainFor op cpu else migrate_or_cancel turns op receipts
 
 -- the event after a call and its reply; None if the run ends. A round of drains follows Opened,
--- NoFrame and NotFree. A migration follows a full round and Moved, or a cancel once `turns`
--- migrations were tried. A commit follows NothingToMove
+-- NoFrame and NotFree. After a full round, and after Moved, comes a migration, or a cancel once
+-- `turns` migrations were tried. A commit follows NothingToMove
 abbrev pub next_after : (cpus turns : ℕ) → List Receipt → Event → Reply → Option Event
 next_after cpus turns receipts (Begin plan) (Opened op) = Some (next_drain cpus turns op 0 receipts)
 next_after cpus turns receipts (DrainFor op cpu) Done = Some (next_drain cpus turns op (cpu + 1) receipts)

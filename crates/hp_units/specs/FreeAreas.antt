@@ -28,7 +28,8 @@ class_of_kind zone kind = if kind.isolated then isolated_class zone else usable_
 abbrev pub class_of : LayoutParts → FreeAreas → Zone → Frame → Class
 class_of l a zone frame = class_of_kind zone (kind_of a (pageblock_of l frame))
 
--- a free block added at the front of a list, or at its back; a list without a free block
+-- the areas after a free block is put at the front of a list, after one is put at its back, and
+-- after one is taken off it
 abbrev pub with_front : FreeAreas → Class → Order → Frame → FreeAreas
 with_front a class order frame = with_free_list a class order (frame ∷ free_list a class order)
 
@@ -79,24 +80,25 @@ take_first a class rest order wanted (frame ∷ frames) =
 abbrev pub take_front : FreeAreas → (class rest : Class) → (order wanted : Order) → Option Taken
 take_front a class rest order wanted = take_first a class rest order wanted (free_list a class order)
 
--- the front block of the least order that is large enough, split down to the wanted order; None if
--- no such order has a block (Knuth, volume 1, section 2.5, reservation; which end of the list is
--- this model's choice)
+-- the front block of the least order, from `wanted` up, at which the class has a block. It is split
+-- down to `wanted`. None if the class has no such block (Knuth, volume 1, section 2.5, reservation;
+-- which end of the list is this model's choice)
 unfoldable pub take_block : LayoutParts → FreeAreas → Class → Order → Option Taken
 take_block l a class wanted =
     option_and_then (λ order. take_front a class class order wanted)
     (least_order a class wanted (l.order + 1 - wanted))
 
--- the order up to which a free block joins, looking at `count` orders: the least at which its buddy
--- is not free in this class, or else the last (Knuth, volume 1, section 2.5, liberation)
+-- the order up to which a free block joins, if `count` orders from `order` on are looked at: the
+-- least of them at which its buddy is not free in this class, or else `order + count` (Knuth,
+-- volume 1, section 2.5, liberation)
 abbrev pub join_order : FreeAreas → Class → (frame : Frame) (order : Order) (count : ℕ) → Order
 join_order a class frame order zero = order
 join_order a class frame order (suc count) =
     let joined = join_order a class frame (suc order) count in
     if is_on (buddy (ancestor frame order) order) (free_list a class order) then joined else order
 
--- the areas without the frame's buddies of `count` orders (Knuth, volume 1, section 2.5,
--- liberation)
+-- the areas without the frame's buddies of the `count` orders from `order` on (Knuth, volume 1,
+-- section 2.5, liberation)
 abbrev pub without_buddies : FreeAreas → Class → (frame : Frame) (order : Order) (count : ℕ) → FreeAreas
 without_buddies a class frame order zero = a
 without_buddies a class frame order (suc count) =
@@ -136,8 +138,9 @@ steal_front l a mobility order wanted =
     (take_front a from (usable_class NormalZone mobility) order wanted)
     else take_front a from from order wanted
 
--- a block for a mobility of zone Normal, stolen from the other mobility's greatest order that has
--- one (Gorman, chapter 6: fallback; the exact rule is this model's)
+-- a block for a mobility of zone Normal. It is stolen at the greatest order, from `wanted` up, at
+-- which the other mobility has a block; None if there is none (Gorman, chapter 6: fallback; the
+-- exact rule is this model's)
 unfoldable pub steal_block : LayoutParts → FreeAreas → Mobility → Order → Option Taken
 steal_block l a mobility wanted =
     option_and_then (λ order. steal_front l a mobility order wanted)

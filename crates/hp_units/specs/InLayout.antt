@@ -10,7 +10,7 @@ use Rattle.hp_units.specs.Memory.{FreeAreas, FreeFrames, Pages, Blocks, Memory, 
 use Rattle.hp_units.specs.FreeAreas.{is_on}
 use Rattle.hp_units.specs.Pages.{frame_at, words_at}
 
--- a list per class and order, a kind per pageblock, and each free block within the frames
+-- a list per class and order, a kind per pageblock, and each free block within the layout's frames
 pub record AreFreeAreasOf (l : LayoutParts) (a : FreeAreas) : Type 0 where
   pub lists : length a.lists ≡ 5 * (l.order + 1)
   pub kinds : length a.kinds ≡ pageblock_count l

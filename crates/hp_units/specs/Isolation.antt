@@ -46,8 +46,8 @@ add_pageblock l zone a pageblock =
 abbrev pub add_block : LayoutParts → Zone → FreeAreas → Block → FreeAreas
 add_block l zone a block = fold (add_pageblock l zone) a (pageblocks_of l block)
 
--- an isolated pageblock that is one free block leaves the areas, and has the kind of an offline
--- one. (Linux, memory hotplug: offlining removes the free pages from the allocator)
+-- an isolated pageblock that is one free block leaves the areas, and gets the kind of a pageblock
+-- in an offline block (Linux, memory hotplug: offlining removes the free pages from the allocator)
 abbrev pub remove_pageblock : LayoutParts → Zone → FreeAreas → Pageblock → FreeAreas
 remove_pageblock l zone a pageblock =
     with_kind (without_free a (isolated_class zone) l.order (pageblock * pageblock_size l)) pageblock

@@ -51,7 +51,7 @@ is_within low high n = nat_le low n && nat_le n high
 abbrev pub is_pageblock_count : ℕ → Bool
 is_pageblock_count n = list_any (λ k. n == 2 ^ k) (range_with_len 0 7)
 
--- the faults of a layout in their order: of its frames, of its processors, and of the rest
+-- the first fault of a layout's frames, the first of its processors, and the first of the rest
 abbrev pub frame_fault : LayoutParts → Option LayoutFault
 frame_fault l = first_some (
     then_some (not (is_within 0 10 l.order)) BadOrder

@@ -16,7 +16,7 @@ mark_of event = Other
 abbrev pub tag_of : Record → Tag
 tag_of r = record { serial = r.serial; mark = mark_of r.event }
 
--- the mark of a Begin; the mark of an operation's own work
+-- the mark is that of a Begin; the mark is that of the operation's own work
 abbrev pub is_opening : Mark → Bool
 is_opening Opens = true
 is_opening (Works op) = false

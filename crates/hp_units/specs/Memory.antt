@@ -96,7 +96,8 @@ abbrev pub with_free_list : FreeAreas → Class → Order → List Frame → Fre
 with_free_list a class order frames =
     record a { lists = slice_set a.lists (5 * order + class_index class) frames }
 
--- the kind of a pageblock in an offline block
+-- the kind of a pageblock in an offline block. `kind_of` also returns it for a number outside the
+-- layout
 abbrev pub plain_kind : Kind
 plain_kind = record { mobility = Movable; isolated = false }
 
@@ -128,7 +129,8 @@ with_entry table owner page entry =
 
 -- ---- the rows
 
--- the row of an offline block
+-- the row of an offline block that no operation claims. `row_of` also returns it for a number
+-- outside the layout
 abbrev pub offline_row : Row
 offline_row = record { state = OfflineState; zone = None; claim = None }
 

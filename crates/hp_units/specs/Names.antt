@@ -1,4 +1,5 @@
--- Short names for the variants of the crate's enums, re-exported from one place. Declares nothing.
+-- Exports again, from one place, types and variants of rows, plans, events, replies and marks. Some
+-- variants are renamed, such as `Normal` to `NormalZone`. Declares nothing.
 pub use Rattle.hp_units.specs.declared.rows.Zone.TheVariants.{Normal as NormalZone, Movable as MovableZone}
 pub use Rattle.hp_units.specs.declared.rows.Mobility.TheVariants.{Unmovable, Movable}
 pub use Rattle.hp_units.specs.declared.rows.Class.TheVariants.{Nu, Nm, Mm, IsoN, IsoM}

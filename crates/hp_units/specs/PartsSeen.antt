@@ -1,4 +1,4 @@
--- The sizes passed to Layout::new as a contract sees them, and when each fault occurs.
+-- The value in contracts of the sizes passed to Layout::new, and when each fault occurs.
 use Rattle.std.specs.Prelude.{◌≡◌, Some, None}
 use Rattle.hp_units.specs.declared.layouts.Parts.{Parts}
 use Rattle.hp_units.specs.declared.layouts.LayoutFault.{LayoutFault}
@@ -21,7 +21,7 @@ parts_seen p = record {
   boot = p.boot.now;
 }
 
--- the fault is the first of the sizes; OutOfMemory occurs only if they have none
+-- the fault is the first that the sizes have; OutOfMemory occurs only if they have none
 abbrev pub IsLayoutFault : LayoutParts → LayoutFault → Type 0
 IsLayoutFault l OutOfMemory = layout_fault l ≡ None
 IsLayoutFault l fault = layout_fault l ≡ Some fault

@@ -36,8 +36,8 @@ covers frame order first = nat_le first frame && nat_lt frame (first + 2 ^ order
 abbrev pub covered : (frame : Frame) (order : Order) (first : Frame) → ℕ
 covered frame order first = if covers frame order first then 1 else 0
 
--- how many blocks on one list contain the frame; how many on this list and all later ones do. A
--- list's number is five times its order plus its class
+-- how many blocks on a list contain the frame; how many blocks on list `number` and all later ones
+-- do. The number of a list is five times its order plus the index of its class
 abbrev pub list_places : (frame : Frame) (order : Order) → List Frame → ℕ
 list_places frame order frames = count_by (covers frame order) frames
 
@@ -127,8 +127,9 @@ IsPage l (Some frame) (Some words) = length words ≡ l.words
 
 -- ---- well placed states
 
--- the parts of a state agree: free blocks are in the lists of their class, and no two buddies are
--- on one list below the greatest order. Rows, kinds, kernel blocks and pages are valid
+-- the parts of a state agree. Free blocks are on lists of their class, and frames on processors'
+-- lists are on lists of their pool. Below the greatest order, no two buddies are on one list. Rows,
+-- kinds, kernel blocks and pages are valid
 pub record IsInOrder (l : LayoutParts) (s : Memory) : Type 0 where
   pub shape : IsShaped l s
   pub blocks : (class : Class) (order : Order) (first : Frame)
@@ -148,8 +149,8 @@ pub record IsInOrder (l : LayoutParts) (s : Memory) : Type 0 where
   pub words : (owner : Owner) (page : Page)
       → IsPage l (frame_at s.pages owner page) (words_at s.pages owner page)
 
--- a well placed state: each frame is in exactly one place, and numbers beyond the layout count as
--- offline
+-- a well placed state: its parts agree, and each frame is in exactly one place. Numbers beyond the
+-- layout count as offline
 pub record IsWellPlaced (l : LayoutParts) (s : Memory) : Type 0 where
   pub in_order : IsInOrder l s
   pub once : (frame : Frame) → places_of l s frame ≡ 1

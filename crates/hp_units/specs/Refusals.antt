@@ -35,7 +35,7 @@ is_all_free l s block =
     (free_list s.free.areas (isolated_class (zone_of_block s.blocks block)) l.order)) (pageblocks_of l
     block)
 
--- the lowest frame, of the blocks that an operation is taking offline, that is in no free block
+-- in the blocks that an operation is taking offline, the lowest frame that is in no free block
 abbrev pub frame_in_use : LayoutParts → Memory → Serial → Option Frame
 frame_in_use l s op =
     find (λ frame. not (is_in_free_block l s.free.areas frame))
@@ -50,7 +50,8 @@ first_repeated before (item ∷ plan) =
     let later = first_repeated (item.block ∷ before) plan in
     if is_on item.block before then Some item.block else later
 
--- the lowest frame at which a kernel block starts, in a block that is to go offline
+-- the lowest frame of the item's block at which a kernel block starts; None if the block is not to
+-- go offline
 abbrev pub kernel_frame_in : LayoutParts → Memory → Item → Option Frame
 kernel_frame_in l s item =
     if is_off item.wish then find (λ frame. is_some (kernel_order s frame)) (frames_of_block l item.block)

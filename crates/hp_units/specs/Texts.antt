@@ -1,4 +1,5 @@
--- The machine's words as printed.
+-- How refusals, replies, faults, classes, pools, zones and the setting for added blocks are
+-- printed.
 use Rattle.std.specs.Prelude.{ℕ, List, ◌++◌, codes}
 use Rattle.std.specs.Fmt.{decimal}
 use Rattle.hp_units.specs.Names.{Zone, NormalZone, MovableZone, Class, Nu, Nm, Mm, IsoN, IsoM, Pool, NuPool, NmPool, MmPool, Auto, OfflineAuto, OnlineAuto, KernelAuto, MovableAuto, Refusal, NoOwner, NoPage, NoWord, AlreadyMapped, NotMapped, BadOrder, NoFrame, NoSuchFrame, NotKernel, NoCpu, NoBlock, EmptyPlan, Twice, Busy, NotOnline, NotOffline, HoldsUnmovable, NoOp, NothingToMove, NotFree, Gone, BadAddress, NotAbsent, Reply, Done, GivesFrame, Word, Moved, Opened, Restored, Released, Undone, Refused, CallFault, HistoryFull, OutOfMemory}

@@ -1,4 +1,4 @@
-//! Plans, and the words of a page. A contract sees each as a list.
+//! Plans, and the words of a page. In contracts, the value of each is a list.
 ghost use Rattle.std.specs.Prelude.{◌≡◌, ◌↔◌, ◌<◌, None, IfOk, IsOk, IsTrue, length, slice_set};
 
 use crate::rows::Wish;
@@ -15,8 +15,9 @@ pub struct Item {
     pub wish: Wish,
 }
 
-/// What an operation makes of memory blocks: one item per block, in the order in which they are
-/// checked. The items are boxed, so that events stay small.
+/// What an operation is to make of memory blocks: the items, in the order in which they are
+/// checked. A plan that names a block twice is refused. The items are boxed, so that events stay
+/// small.
 #[derive(Drop)]
 pub struct Plan {
     items: Box<Vec<Item>>,

@@ -40,8 +40,8 @@ pub enum Refusal {
     NotOnline { block: Block },
     /// The block is not offline.
     NotOffline { block: Block },
-    /// A kernel block starts at this frame. It is the lowest such frame of the first block in the
-    /// plan that is to go offline and has one.
+    /// A kernel block starts at this frame. It is the lowest such frame in the plan's first block
+    /// that is to go offline and has a kernel block.
     Unmovable { frame: Frame },
     /// No operation with this number holds a memory block: it has ended, was undone, or never
     /// began.

@@ -20,7 +20,7 @@ allowed_none = record {
   offline = false;
 }
 
--- a fault of this kind does not make a log unlawful
+-- a violation of the law does not make a log unlawful
 abbrev pub allows_law : AllowedKinds → Law → Bool
 allows_law a Once = a.once
 allows_law a InUse = a.in_use

@@ -19,8 +19,8 @@ abbrev pub blocks_for : (order : ℕ) → Option BlockRange → ℕ
 blocks_for order None = 2 ^ (26 - order)
 blocks_for order (Some range) = max (2 ^ (26 - order)) range.end
 
--- the machine has memory blocks of this many frames, a power of two up to 2^26, and each frame has a
--- number of 32 bits
+-- the machine has memory blocks of this many frames, a power of two up to 2^26. It has `blocks_for` of
+-- them, and the number of all frames fits into 32 bits
 pub record IsSizeFor (frames : ℕ) (range : Option BlockRange) (size : MachineSize) : Type 0 where
   pub low : size.block_order ≤ 26
   pub frames_are : frames ≡ 2 ^ size.block_order

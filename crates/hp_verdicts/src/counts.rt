@@ -121,9 +121,9 @@ impl BlockCounts {
 /// How many frames of an event's pieces are in use, before the event or after it.
 #[derive(Clone, Copy, Drop)]
 pub struct Usage {
-    /// Of the piece of an alloc or a free, or of the frame that a page moves from.
+    /// The number for the piece of an alloc or a free, or for the frame that a page moves from.
     pub first: u32,
-    /// Of the frame that a page moves to.
+    /// The number for the frame that a page moves to; 0 for other events.
     pub second: u32,
 }
 

@@ -49,7 +49,7 @@ impl JudgedLog {
         &self.verdict
     }
 
-    /// Returns whether no other event can be read.
+    /// Returns whether the log has as many events as can be read, 2^63.
     pub fn is_full(&self) -> bool
         ensures { IsTrue result ↔ 2 ^ 63 ≤ self.now.verdict.tables.count }
     {

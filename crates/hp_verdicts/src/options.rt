@@ -7,8 +7,8 @@ use crate::selection::BlockRange;
 use hp_judge::{MachineSize, piece_size};
 use hp_numbers::Order;
 
-/// The order of the number of frames that a log is judged for, unless blocks past them are asked
-/// for. 2^26 frames of 4 KiB are 256 GiB, for which a judge takes 1 GiB.
+/// A log is judged for a machine of 2 to this power frames, or of more if blocks past them are
+/// asked for. 2^26 frames of 4 KiB are 256 GiB, for which a judge takes 1 GiB.
 const MOST_FRAMES_ORDER: u32 = 26;
 
 /// The options of a judgement.
@@ -27,8 +27,8 @@ pub enum SizeFault {
     Missing,
     /// The log has another number than the options.
     Different,
-    /// The number in the log is not a power of two up to 2^26, or it gives the blocks of the range
-    /// frame numbers past 32 bits.
+    /// The number in the log is not a power of two up to 2^26, or with it there are 2^32 frames or
+    /// more up to the range's end.
     Wrong,
 }
 
@@ -36,8 +36,8 @@ impl JudgeOptions {
     /// Returns options for a log of memory blocks of `block_frames` frames each; if that is `None`,
     /// the log must have the number.
     ///
-    /// Returns `None` unless the number is a power of two up to 2^26, and the frames of the range's
-    /// blocks have numbers of 32 bits.
+    /// Returns `None` if `block_frames` is given and is not a power of two up to 2^26, or if with
+    /// it there are 2^32 frames or more up to the range's end.
     pub fn new(
         block_frames: Option<u64>,
         range: Option<BlockRange>,
@@ -108,8 +108,8 @@ impl JudgeOptions {
 }
 
 /// Returns the size of a machine with 2^26 frames, or with all blocks up to the range's end if
-/// these are more. Returns `None` if `block_frames` is not a power of two up to 2^26, or if a
-/// frame's number does not fit into 32 bits.
+/// these are more. Returns `None` if `block_frames` is not a power of two up to 2^26, or if the
+/// number of the machine's frames does not fit into 32 bits.
 fn machine_size(block_frames: u64, range: Option<BlockRange>) -> Option<MachineSize>
     ensures some { IfSome result (IsSizeFor block_frames range) }
     ensures none { IfNone result (HasNoSize block_frames range) }

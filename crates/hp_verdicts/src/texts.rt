@@ -90,7 +90,7 @@ fn write_rest(out: &mut String, log: &JudgedLog) -> Result<(), AllocError> {
     writeln!(out, "and {rest} more")
 }
 
-/// Writes a fault: its place, its kind, and what it is.
+/// Writes a fault: its line and event, its kind, and what it is.
 fn write_fault(
     out: &mut String,
     size: &MachineSize,

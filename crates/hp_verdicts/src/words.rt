@@ -33,7 +33,8 @@ pub(crate) fn is_of_frame(law: Law) -> bool {
     }
 }
 
-/// Returns the text of a broken law, which comes between the place and the earlier event.
+/// Returns the text of a broken law. In a report it is between the frame or memory block and the
+/// line of the earlier event.
 pub(crate) fn broken(law: Law) -> &'static str {
     match law {
         Law::Once => "is handed out, and has been in use since",

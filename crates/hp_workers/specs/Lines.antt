@@ -25,7 +25,8 @@ use Rattle.hp_workers.specs.declared.lines.LineEnd.TheVariants.{Reply as Replied
 abbrev pub Run : Type 1
 Run = List Receipt → Option CallFault → LineEnd → Type 0
 
--- one event: a receipt of it whose reply is the end, or no receipt and the call's fault
+-- one event: either one receipt of it, with the reply that is the line's end, or no receipt, and the
+-- call's fault is the end
 abbrev pub IsEventRun : Event → Run
 IsEventRun event gained fault (Replied reply) =
     (r : Receipt) × (gained ≡ r ∷ []) × (fault ≡ None) × (r.event ≡ event) × (r.reply ≡ reply)
@@ -53,7 +54,7 @@ IsPlanRun cpus turns plan gained fault (Sealed count) = ⊥
 abbrev pub IsUntaken : ControlFault → Run
 IsUntaken why gained fault end = (gained ≡ []) × (fault ≡ None) × (end ≡ Untaken why)
 
--- no call is made for a line that reads a control file, or seals
+-- calls cannot do the work of this line, which reads a control file or seals
 abbrev pub IsNoRun : Run
 IsNoRun gained fault end = ⊥
 
@@ -65,7 +66,7 @@ IsAskedRun cpus (asks.not_taken why) = IsUntaken why
 IsAskedRun cpus (asks.cat path) = IsNoRun
 IsAskedRun cpus asks.seal = IsNoRun
 
--- a line's work was done through a port, of whose calls at most the last failed
+-- a line's work was done by calls through a port, and at most the last of them failed
 pub record IsPortRun {S : Type 0} (shows : S → PortValue) (makes : S → List Receipt → S → Type 0)
     (leaves : S → CallFault → S → Type 0) (old : S) (Ran : Run) (end : LineEnd) (new : S) : Type 0 where
   pub gained : List Receipt
@@ -73,7 +74,7 @@ pub record IsPortRun {S : Type 0} (shows : S → PortValue) (makes : S → List 
   pub made : AreMade makes leaves old gained fault new
   pub ran : Ran gained fault end
 
--- a seat after calls, of which at most the last failed
+-- the seat after a further call that failed with this fault; without a fault, the seat itself
 abbrev pub left_with : SeatValue → Option CallFault → SeatValue
 left_with seat None = seat
 left_with seat (Some fault) = left_by seat fault
@@ -101,7 +102,7 @@ IsSealRun l old handed (Sealed count) new =
     (v : Volume) × (handed ≡ v ∷ []) × IsSealOf l v (length old.receipts) × (count ≡ length v.records)
     × (new ≡ sealed_by old v)
 
--- a line was run by a seat, by calls or by a seal, which handed out these volumes
+-- a line was run by a seat: by calls, which hand out no volume, or by a seal, which handed out these
 abbrev pub IsLine : LayoutParts → SeatValue → asks.Meaning → List Volume → LineEnd → SeatValue → Type 0
 IsLine l old asked handed end new =
     ((handed ≡ []) × IsCallsRun l old asked end new)

@@ -21,7 +21,7 @@ seals_in lines = sum_by (λ line. one_if (is_seal line.work)) lines
 abbrev pub seals_in_all : List (List Line) → ℕ
 seals_in_all scripts = sum_by seals_in scripts
 
--- each volume is what a state of the shared machine held since its last seal
+-- each volume is that of some state of the shared machine: it holds all records since the last seal
 abbrev pub AreSealed : LayoutParts → List Volume → Type 0
 AreSealed l volumes = All (λ v. IsSealOf l v 0) volumes
 

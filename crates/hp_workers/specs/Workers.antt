@@ -36,14 +36,14 @@ pub record IsWorker (l : LayoutParts) (old : SeatValue) (lines : List Line) (new
 abbrev pub IsBare : List SeatValue → List Volume → List (List LineEnd) → Option RunFault → Type 0
 IsBare news volumes lists fault = (news ≡ []) × (volumes ≡ []) × (lists ≡ []) × (fault ≡ None)
 
--- a worker of the script at this place
+-- a worker of the seat `old` and of the script with index `place`
 pub record IsWorkerAt (l : LayoutParts) (old : SeatValue) (scripts : List (List Line)) (place : ℕ)
     (new : SeatValue) (handed : List Volume) (ends : List LineEnd) (fault : Option RunFault) : Type 0 where
   pub lines : List Line
   pub script : slice_get scripts place ≡ Some lines
   pub worker : IsWorker l old lines new handed ends fault
 
--- the worker of the seat and the script at this place
+-- a worker of `old` and `lines`; its seat, volumes, ends and fault are at index `place` of the lists
 pub record HasWorker (l : LayoutParts) (old : SeatValue) (lines : List Line) (news : List SeatValue)
     (lists : List (List Volume)) (ends : List (List LineEnd)) (faults : List (Option RunFault))
     (place : ℕ) : Type 0 where
@@ -83,8 +83,7 @@ pub record AreUnstarted (olds news : List SeatValue) (volumes : List Volume) (li
   pub ends : lists ≡ []
   pub fault_is : fault ≡ Some OutOfMemory
 
--- all workers have returned; the volumes are in order, and there are at most as many as lines that
--- seal
+-- all workers have returned; the volumes are in order, and at most as many as there are lines that seal
 pub record AreGathered (l : LayoutParts) (olds : List SeatValue) (scripts : List (List Line))
     (news : List SeatValue) (volumes : List Volume) (lists : List (List LineEnd))
     (fault : Option RunFault) : Type 0 where

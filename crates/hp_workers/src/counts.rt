@@ -28,7 +28,7 @@ fn count_lines(lines: &[Line], before: usize) -> Option<usize>
     Some(count)
 }
 
-/// Returns the count, plus one if the line seals, or `None` on overflow.
+/// Returns `count`, plus one if the line seals, or `None` on overflow.
 fn count_line(line: &Line, count: usize) -> Option<usize>
     ensures { IfSome result (λ next. next ≡ count + one_if (is_seal line.now.work)) }
 {

@@ -20,7 +20,7 @@ pub(crate) struct GatedPort<'a, L: Job, G: Gate, R: Wait> {
 }
 
 impl<'a, L: Job, G: Gate, R: Wait> GatedPort<'a, L, G, R> {
-    /// Returns a seat's port. `calls` is how many calls were made before.
+    /// Returns a seat's port. `calls` counts the seat's calls and seals so far.
     pub(crate) fn new(
         rt: &'a R,
         seat: &'a mut Seat<L>,

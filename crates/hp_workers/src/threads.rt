@@ -66,10 +66,10 @@ pub struct RunEnd<L: Job> {
     pub fault: Option<RunFault>,
 }
 
-/// Runs each script by the seat at its place, each in a thread of its own, and waits for all. The
-/// first seat's thread is the caller's, so that a run of one processor's lines needs no memory for
-/// a second thread. Each call and each seal of a seat takes the machine's lock anew, with the gate
-/// before and after.
+/// Runs each script by the seat with the same index, each in a thread of its own, and waits for
+/// all. The first seat's thread is the caller's, so that a run of one processor's lines needs no
+/// memory for a second thread. Each call and each seal of a seat takes the machine's lock anew,
+/// with the gate before and after.
 ///
 /// All seats come back in every case, with the receipts of the lines that they ran, in order, and
 /// so do all volumes that the lines' seals handed out. A worker runs all its lines or none. It runs
@@ -152,7 +152,8 @@ fn unstarted<L: Job>(alloc: Global, seats: Vec<Seat<L>>) -> RunEnd<L>
     }
 }
 
-/// Runs a worker for each seat, beside the workers of the seats before it. There is room for all.
+/// Runs a worker for each seat, beside the workers of the seats before it. `room` must have
+/// room for all results.
 #[cycle(workers)]
 fn run_rest<L: Job + Send + Sync, G: Gate + Sync, R: Threads + Wait + Sync>(
     rt: &R,

@@ -240,8 +240,8 @@ fn is_said(alloc: Global, count: usize, expected: &str) -> Result<bool, AllocErr
     has_report(alloc, &text, expected)
 }
 
-/// Returns whether the report names the greatest depth that the reader accepts for a text that is
-/// deeper, but not for one of exactly this depth.
+/// Checks a text that is nested deeper than the reader accepts, and one of exactly the greatest
+/// depth. Returns whether the report names this depth for the first and not for the second.
 fn is_depth_said(alloc: Global) -> Result<bool, AllocError> {
     let deep = "line 1, column 128: not JSON: more than 127 objects and lists in one another\n\
                 faults: 1, warnings: 0\n";
@@ -281,8 +281,8 @@ fn are_warnings(findings: &[Finding]) -> bool {
     true
 }
 
-/// Returns whether the report on the text at `place` of `CHECKED` has this many faults, and has
-/// only warnings exactly if `is_whole`.
+/// Returns whether a check of the text at index `place` of `CHECKED` finds this many faults, and
+/// finds only warnings exactly if `is_whole`.
 fn counts(alloc: Global, place: usize, faults: usize, is_whole: bool) -> Result<bool, AllocError> {
     let Some((text, _report)) = checked().get(place) else {
         return Ok(false);

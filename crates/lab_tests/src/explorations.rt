@@ -4,9 +4,9 @@ use hp_search::{EndsForm, GroupBy, explore_text};
 use std::alloc::{AllocError, Global};
 use std::test::Fail;
 
-/// An offline against a map, with one free frame outside the block, which both may need. The
-/// expected replies in each order of the four calls are those of a separate program, written by
-/// hand.
+/// An offline against a map, with one free frame outside the block, which both may need.
+/// The expected replies in each order of the four calls are those of a separate program
+/// that was written by hand.
 const RACE: &str =
     "0 map db 0;0 write db 0 0 7;0 kalloc 0;0 begin off 1;0 migrate 0;0 commit 0;1 map web 0";
 
@@ -47,7 +47,7 @@ const RACE_SUMMARY: &str = "interleavings: 4\nends: 3\nend 1: 2, 50.0 %, 1 refus
 const BLOCKS_SUMMARY: &str = "interleavings: 4\nends: 2\nend 1: 2, 50.0 %, 1 refused, 0:N 1:off\n\
      end 2: 2, 50.0 %, 2 refused, 0:N 1:M>off\n";
 
-/// A setup with a line of each kind, and one line after it that brings the block online again.
+/// A setup with a line of each kind, and one line after it that brings block 1 online again.
 const SETUP: &str = "0 cat buddyinfo;0 map db 0;0 unmap db 0;0 echo offline memory1/state;0 seal;\
      0 echo online_movable memory1/state;1 plan 4 off 1;0 echo x memory1/state;\
      0 echo 1 memory1/online";
@@ -117,8 +117,8 @@ const EXPLORED: &[Explored] = &[
     (PLAN_RACE, 3, EndsForm::Summary, PLANS, PLANS_SUMMARY),
 ];
 
-/// Returns the scenario of these lines, on a layout of two memory blocks of one pageblock of two
-/// frames, with room for `history` records.
+/// Returns a scenario with these lines, which are separated by semicolons. Its layout has two
+/// memory blocks, each one pageblock of two frames, and a history with room for `history` records.
 pub fn scenario(alloc: Global, history: u64, lines: &str) -> Result<String, AllocError> {
     let calls = lines.replace(alloc, ";", "\",\"")?;
     format!(in alloc;

@@ -25,8 +25,8 @@ const LIMITED: &[Checked] = &[
     ),
 ];
 
-/// Texts that are no lines, with the hint of the report: a leading zero at the last place of each
-/// verb, words close to a verb, and wrong letters in a name.
+/// Texts that cannot be read as lines, with the hint of the report: for most verbs a leading zero
+/// in the last word, then words close to a verb, and wrong letters in a name.
 const WANTED: &[Checked] = &[
     (
         "0 kalloc 01",
@@ -222,7 +222,7 @@ const ECHOED: Checked = (
 );
 
 /// The layout of `ECHOED` with a history of 1028 records, exactly enough for an `echo` that takes
-/// memory offline: the report is empty.
+/// memory offline: the report has no warning.
 const ROOMY: Checked = (
     "{\"layout\":{\"order\":1,\"pageblocks\":1,\"blocks\":2,\"cpus\":2,\"batch\":1,\"high\":1,\
      \"owners\":2,\"pages\":2,\"words\":1,\"history\":1028,\"boot\":[\"normal\",\"movable\"]},\n\
@@ -230,8 +230,8 @@ const ROOMY: Checked = (
     "faults: 0, warnings: 0\n",
 );
 
-/// Invisible characters: in a key, in texts that are no lines, and in words and paths of control
-/// files.
+/// Invisible or odd characters: in a key, in texts that cannot be read as lines, and in words and
+/// paths of control files. The last path is only misspelled.
 const UNSEEN: &[Checked] = &[
     (
         "{\"lay\u{ad}out\":1,\"calls\":[\"0\u{a0}seal\",\"0 seal\u{200b}\",\"0 map d\u{200b}b 0\"]}",
@@ -254,7 +254,7 @@ const UNSEEN: &[Checked] = &[
 ];
 
 /// A plan in a script. It may begin operation 2 before the line of another script that names this
-/// operation, so the report is empty.
+/// operation, so the report has no warning.
 const PLANNED: Checked = (
     "{\"layout\":{\"order\":1,\"pageblocks\":1,\"blocks\":2,\"cpus\":2,\"batch\":1,\"high\":1,\
      \"owners\":2,\"pages\":2,\"words\":1,\"history\":40,\"boot\":[\"normal\",\"movable\"]},\n\
@@ -276,8 +276,8 @@ const ONE_CALL: &str =
     "{\"layout\":{\"order\":1,\"pageblocks\":1,\"blocks\":1,\"cpus\":1,\"batch\":1,\
     \"high\":1,\"owners\":1,\"pages\":1,\"words\":1,\"history\":1,\"boot\":[\"normal\"]},\"calls\":[\"";
 
-/// Returns whether the report on a scenario with this one entry in `calls`, which is no line, is
-/// `said`.
+/// Checks a scenario with `call` as its only entry in `calls`. Returns whether the report has just
+/// one fault, with the text `said` for this entry.
 fn is_wanted(alloc: Global, call: &str, said: &str) -> Result<bool, AllocError> {
     let head = ONE_CALL;
     let text = format!(in alloc; "{head}{call}\"]}}")?;

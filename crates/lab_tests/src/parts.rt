@@ -21,7 +21,8 @@ fn part_of(alloc: Global, input: &[u8], number: ShardId, limit: u64) -> String {
     }
 }
 
-/// Returns the text of part `number` of `of` of `RACE`; empty if there is no such part.
+/// Cuts `RACE` into `of` parts, and returns the text of part `number`; empty if there is
+/// no such part.
 fn part(alloc: Global, number: u64, of: u64, limit: u64) -> Result<String, AllocError> {
     let Some(number) = ShardId::new(number, of) else {
         return Ok(String::new(alloc));
@@ -30,7 +31,7 @@ fn part(alloc: Global, number: u64, of: u64, limit: u64) -> Result<String, Alloc
     Ok(part_of(alloc, scenario.as_bytes(), number, limit))
 }
 
-/// Appends the text of part `number` of `of` of `RACE`.
+/// Cuts `RACE` into `of` parts, and appends the text of part `number`.
 fn push_part(out: &mut String, alloc: Global, number: u64, of: u64) -> Result<(), AllocError> {
     let part = part(alloc, number, of, 100)?;
     out.push_str(&part)
@@ -146,8 +147,8 @@ const FIRST: &[First] = &[
     (2, 100, 0, PartFault::NotPart { line: 1 }),
 ];
 
-/// Returns whether the text with only the first part, as often as the row says, is refused with its
-/// fault.
+/// Makes a text of the first part alone, as many times as the row says. Returns whether this text
+/// is refused with the row's fault.
 fn is_first_refused(alloc: Global, first: &First) -> Result<bool, AllocError> {
     let (of, limit, times, fault) = first;
     let one = part(alloc, 1, *of, *limit)?;

@@ -9,8 +9,8 @@ use std::test::Fail;
 const RACE: &str = "0 map db 0;0 echo o\\u007ff]\\\" memory0;0 kalloc 0;0 begin off 1;0 migrate 0;\
      0 commit 0;1 map web 0";
 
-/// The first interleaving that leads to end 3, as a scenario. It is that of a separate program,
-/// written by hand.
+/// The first interleaving that leads to end 3, as a scenario. It is that of a separate program
+/// that was written by hand.
 pub const LAST: &str =
     "{\"layout\": {\"order\": 1, \"pageblocks\": 1, \"blocks\": 2, \"cpus\": 2, \"batch\": 1, \
      \"high\": 1,\n\"owners\": 2, \"pages\": 2, \"words\": 1, \"history\": 40,\n\

@@ -11,7 +11,7 @@ const RACE: &str =
     "0 map db 0;0 write db 0 0 7;0 kalloc 0;0 begin off 1;0 migrate 0;0 commit 0;1 map web 0";
 
 /// The text of a search for `NOT_FREE`. The expected replies to the four calls in each order are
-/// those of a separate program, written by hand.
+/// those of a separate program that was written by hand.
 const REFUSED: &str =
     "changes: 1\nfirst:\n\"1 map web 0\",\n\"0 begin off 1\",\n\"0 migrate 5\",\n\"0 commit 5\"\n";
 
@@ -35,7 +35,7 @@ const REFUSED_SCENARIO: &str =
      \"boot\": [\"normal\", \"movable\"]},\n\"calls\": [\n\"0 map db 0\",\n\"0 write db 0 0 7\",\n\
      \"0 kalloc 0\",\n\"1 map web 0\",\n\"0 begin off 1\",\n\"0 migrate 5\",\n\"0 commit 5\"\n]}\n";
 
-/// Parses a wanted line and appends it. Appends nothing if no end can have the text as a line.
+/// Parses a wanted line and appends it. Appends nothing if the text cannot be read as one.
 fn push_line(alloc: Global, wanted: &mut Vec<Wanted>, text: &str) -> Result<(), AllocError> {
     match wanted_line(alloc, text) {
         Ok(Some(line)) => {
@@ -47,7 +47,7 @@ fn push_line(alloc: Global, wanted: &mut Vec<Wanted>, text: &str) -> Result<(), 
     }
 }
 
-/// Parses wanted lines. Leaves out a text that no end can have as a line.
+/// Parses wanted lines. Leaves out a text that cannot be read as one.
 fn wanted_of(alloc: Global, texts: &[&str]) -> Result<Vec<Wanted>, AllocError> {
     let mut wanted = Vec::new(alloc);
     for text in texts {

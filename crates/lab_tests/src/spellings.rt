@@ -53,8 +53,8 @@ fn scenarios_are_read_as_they_are_written(rt: HostRuntime) -> Result<(), Fail> {
     Ok(())
 }
 
-/// Writes lines, then calls, and a mark after them. With `true`, `write_mark` writes no mark before
-/// them.
+/// Writes lines, then calls, and a mark after them. The first `write_mark` gets `true`, so it
+/// writes no mark between lines and calls.
 fn write_parts(
     out: &mut String,
     names: &IndexSet<Text>,

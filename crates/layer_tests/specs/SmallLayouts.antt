@@ -3,7 +3,7 @@ use Rattle.std.specs.Prelude.{[], ◌∷◌}
 use Rattle.hp_units.specs.LayoutParts.{LayoutParts}
 use Rattle.hp_units.specs.declared.rows.Boot.TheVariants.{Offline}
 
--- two memory blocks of two frames of two words, and one owner with two pages
+-- two memory blocks of two frames each, two words per frame, and one owner with two pages
 abbrev pub two_blocks : LayoutParts
 two_blocks = record {
   order = 1;

@@ -2,6 +2,6 @@
 use Rattle.std.specs.Prelude.{[], ◌∷◌}
 use Rattle.hp_links.specs.LinkedLists.{LinkedLists}
 
--- two lists of four frames, of which the first has three
+-- two lists over four frames: the first holds frames 3, 2 and 0, and the second is empty
 abbrev pub three_listed : LinkedLists
 three_listed = record { frame_count = 4; lists = (3 ∷ 2 ∷ 0 ∷ []) ∷ [] ∷ [] }

@@ -8,7 +8,7 @@ use Rattle.layer_tests.specs.SmallLayouts.{two_blocks}
 abbrev pub no_pages : PageFrames
 no_pages = page_frames_of two_blocks (empty_pages two_blocks)
 
--- the second page is mapped to the third frame, whose buffer is given: none if all words are 0
+-- the second page is mapped to the third frame, whose buffer is `buffer`: None if all words are 0
 abbrev pub second_page : Option (List ℕ) → PageFrames
 second_page buffer = record {
   table = (None ∷ Some 2 ∷ []) ∷ [];

@@ -21,8 +21,8 @@ fn small_blocks(alloc: Global) -> Result<Blocks, Fail>
     Ok(copy)
 }
 
-/// Claims the second memory block, and sets what added blocks become and undoes that. Returns
-/// whether the rows show each.
+/// Sets the row of the second memory block and claims the block. Sets what added blocks become, and
+/// undoes that. Returns whether the layer shows each of these changes.
 fn is_claimed_and_set(blocks: &mut Blocks, tape: &mut Tape) -> bool
     requires blocks { blocks.old ≡ record { layout = two_blocks; blocks = empty_blocks two_blocks } }
     requires room { HasRoom tape.old 3 }

@@ -7,7 +7,8 @@ use std::alloc::Global;
 
 pub(crate) const BOOT: &[Boot] = &[Boot::Offline, Boot::Offline];
 
-/// Returns a layout of two memory blocks of two frames of two words, and one owner with two pages.
+/// Returns a layout of two memory blocks of two frames each, with two words per frame, and one
+/// owner with two pages.
 pub(crate) fn two_blocks(alloc: Global) -> Result<Layout, LayoutFault>
     ensures { IfOk result (λ layout. layout ≡ two_blocks) }
 {

@@ -11,7 +11,7 @@ use hp_units::{Frame, Owner, Page};
 use std::alloc::{AllocError, Global};
 use std::test::Fail;
 
-/// Returns the pages of four frames, none mapped.
+/// Returns the pages of a layout of four frames, none mapped.
 fn small_pages(alloc: Global) -> Result<Pages, Fail>
     ensures layout { IfOk result (λ p. p.layout ≡ two_blocks) }
     ensures pages { IfOk result (λ p. p.pages ≡ no_pages) }
@@ -37,7 +37,7 @@ fn map_page(pages: &mut Pages, tape: &mut Tape)
     pages.map(Owner(0), Page(1), Frame(2), tape);
 }
 
-/// Returns whether the mapped page is found by its number and by its frame, and holds zeros.
+/// Returns whether the mapped page is found by its number and by its frame, and its word 1 is 0.
 fn is_found(pages: &Pages) -> bool
     requires layout { pages.now.layout ≡ two_blocks }
     requires pages { pages.now.pages ≡ second_page None }
@@ -71,8 +71,8 @@ fn is_mapped_and_written(
     Ok(is_found && matches!(pages.words(Owner(0), Page(1)), Some([0, 7])))
 }
 
-/// Writes a word of 2^40. Returns whether the tape notes it with the word before it, and the page
-/// holds it.
+/// Writes 2^40 over a word. Returns whether the tape notes the old and the new word, and the page
+/// holds the new one.
 fn is_large_word_noted(
     alloc: Global,
     pages: &mut Pages,
@@ -101,7 +101,7 @@ fn is_large_word_noted(
 }
 
 /// Moves the page to the last frame and unmaps it, then undoes the exchange of the two frames'
-/// buffers. Returns whether the page was at the last frame and no frame holds one now.
+/// buffers. Returns whether the page was at the last frame, and no frame holds a page now.
 fn is_moved_and_unmapped(pages: &mut Pages, tape: &mut Tape) -> bool
     requires layout { pages.old.layout ≡ two_blocks }
     requires pages { pages.old.pages ≡ second_page (Some (0 ∷ 7 ∷ [])) }

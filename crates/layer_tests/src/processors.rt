@@ -73,7 +73,7 @@ fn drains(cpus: &mut Cpus, buddy: &mut Buddy, tape: &mut Tape) -> bool
     cpus.len(cpu, Pool::Nm) == 0
 }
 
-/// Takes a frame, puts it on its list and drains that. Returns whether each works.
+/// Takes a frame, puts it on its list and drains the lists. Returns whether each of these works.
 fn goes_round(cpus: &mut Cpus, buddy: &mut Buddy, alloc: Global) -> Result<bool, Fail>
     requires layout { cpus.old.layout ≡ two_blocks }
     requires together { AreTogether cpus.old buddy.old }

@@ -7,7 +7,7 @@ use hp_units::{
 use std::alloc::{AllocError, Global};
 use std::test::Fail;
 
-/// Returns whether a layout has the parts of two memory blocks.
+/// Returns whether a layout has the sizes and the boot entries of `two_blocks`.
 fn has_parts(layout: &Layout) -> bool {
     let parts = [
         layout.order(),

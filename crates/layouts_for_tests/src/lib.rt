@@ -1,7 +1,7 @@
 //! A small layout for the tests of several crates, and what its memory blocks are at boot.
 //!
 //! It has four memory blocks of four frames: two of zone Normal, one of zone Movable, and one that
-//! is offline or absent at boot. The clauses of `four_blocks` say what the tests need of it.
+//! is offline or absent at boot. The clauses of `four_blocks` state what the tests need of it.
 #![tactic(auto)]
 
 ghost use Rattle.std.specs.Prelude.{◌≡◌, IfOk};
@@ -16,8 +16,9 @@ pub const LAST_OFFLINE: &[Boot] = &[Boot::Normal, Boot::Normal, Boot::Movable, B
 /// Four memory blocks: the third is in zone Movable, and the last is absent at boot.
 pub const LAST_ABSENT: &[Boot] = &[Boot::Normal, Boot::Normal, Boot::Movable, Boot::Absent];
 
-/// Returns a layout of four memory blocks of one pageblock of four frames, two processors, two
-/// owners with eight pages of two words, and room for `history` records.
+/// Returns a layout of four memory blocks, each of one pageblock of four frames. It has two
+/// processors, two owners with eight pages each, two words per page, and room for `history`
+/// records.
 pub fn four_blocks(alloc: Global, boot: &[Boot], history: u64) -> Result<Layout, LayoutFault>
     ensures order { IfOk result (λ layout. layout.order ≡ 2) }
     ensures frames { IfOk result (λ layout. frame_count layout ≡ 16) }

@@ -17,7 +17,8 @@ fn has_line(alloc: Global, event: &LogEvent, line: &str) -> Result<bool, AllocEr
     Ok(text.as_str().strip_suffix("\n") == Some(line) && again == text)
 }
 
-/// Reads a line and returns the line of its event; empty if the line is no event.
+/// Reads a line and returns the line of its event. Returns an empty text if the line cannot be read
+/// as an event.
 fn line_of_read(alloc: Global, line: &str) -> Result<String, AllocError> {
     let mut scratch = Scratch::new(alloc);
     let mut out = String::new(alloc);

@@ -130,7 +130,8 @@ fn json_lines_have_their_faults(rt: HostRuntime) {
     assert!(rt; json_fails(rt.alloc(), &rows));
 }
 
-/// Lines as Linux 6.1 writes them, each with its event as `numbers_of` returns it.
+/// Lines as Linux 6.1 or `trace-cmd report` writes them, each with its event as `numbers_of`
+/// returns it.
 const FTRACE_LINES: &[(&str, [u32; 4])] = &[
     ("# tracer: nop", [8, 0, 0, 0]),
     (

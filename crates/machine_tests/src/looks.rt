@@ -6,8 +6,8 @@ use std::alloc::{AllocError, Global};
 
 /// What a test checks on a machine.
 pub(crate) trait Look {
-    /// Returns whether a machine just booted, after the calls of the test, is as the test expects.
-    /// Returns false if memory runs out.
+    /// Makes the test's calls on a machine that was just booted. Returns whether the machine is
+    /// then as the test expects, and `false` if memory runs out.
     fn finds(&self, alloc: Global, machine: &mut Machine) -> bool;
 }
 

@@ -9,8 +9,8 @@ use std::alloc::{AllocError, Global};
 use std::test::Fail;
 
 /// The expected picture of a memory block: its head, its cells, its cells with orders, its
-/// pageblocks' kinds; its free blocks (place, order, whether isolated), its kernel blocks (place,
-/// order), and its counts.
+/// pageblocks' kinds; its free blocks (index in the cells, order, whether isolated), its kernel
+/// blocks (index in the cells, order), and its counts.
 type Wanted = (
     [&'static str; 4],
     &'static [(u32, u32, bool)],
@@ -312,8 +312,8 @@ fn draws_orders(alloc: Global, machine: &mut Machine) -> Result<bool, AllocError
     Ok(is_done && are_ordered(alloc, &blocks)? && are_counted(alloc, &blocks)?)
 }
 
-/// Boots a machine with memory blocks of this size, and returns whether it is drawn as the test
-/// expects.
+/// Boots a machine, and returns whether it is drawn as the test expects. `size` is the order, the
+/// pageblocks per memory block and `batch`.
 fn finds(alloc: Global, size: (u64, u64, u64), boot: &[Boot], look: &Drawn) -> Result<bool, Fail> {
     let parts = Parts {
         order: size.0,

@@ -71,8 +71,8 @@ fn replay_first(alloc: Global, volumes: &[Volume]) -> Outcome {
     expect(image.same(&second.base))
 }
 
-/// Checks that a course (a memory with its history) has the Image at boot as its base and as its
-/// state, when it boots.
+/// Boots a course (a memory with its history). Checks that its base and its state are
+/// the Image at boot.
 fn start_anew(alloc: Global, layout: &Layout) -> Outcome {
     let boot = Image::boot(alloc, layout)?;
     let course = Course::boot(alloc, layout)?;

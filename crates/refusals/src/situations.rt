@@ -1,5 +1,5 @@
-//! The cases by name, with the scenarios that they run. If a case is about one call, it is the last
-//! line.
+//! The cases by name, with the scenarios that they run. If a case is about one call, that
+//! call is the last line.
 use crate::{audits, rooms, seats};
 use hp_scenario::Scenario;
 use refused_values::{Outcome, memories};

@@ -44,8 +44,8 @@ impl<'a> Case<'a> {
         self.refusals = self.refusals.saturating_add(1);
     }
 
-    /// Counts a call that ran out of memory, and returns `is_kept`: whether all was as before. Any
-    /// other trouble is `Wrong`.
+    /// Counts a call that ran out of memory, and returns `is_kept`: whether all was as before. If
+    /// `trouble` is `Wrong`, returns `Wrong` instead and counts nothing.
     pub fn refused(&mut self, trouble: Trouble, is_kept: Outcome) -> Outcome {
         match trouble {
             Trouble::Wrong => Err(Trouble::Wrong),
@@ -56,7 +56,8 @@ impl<'a> Case<'a> {
         }
     }
 
-    /// Prints that all is prepared that the calls need. After this line allocations may be refused.
+    /// Prints that everything that the calls need is prepared. After this line, allocations may be
+    /// refused.
     pub fn say_set_up(&self) {
         let _said = eprintln!(self.host; "set up");
     }

@@ -18,14 +18,14 @@ use std::alloc::{AllocError, Global};
 
 const BOOT: &[Boot] = &[Boot::Normal, Boot::Normal, Boot::Movable, Boot::Offline];
 
-/// Returns a layout of four memory blocks of one pageblock of four frames, with room for `history`
-/// records.
+/// Returns a layout of four memory blocks, each of one pageblock of four frames, with room for
+/// `history` records.
 pub fn layout_of(alloc: Global, history: u64) -> Outcome<Layout> {
     layout_with(alloc, 2, 2, history)
 }
 
-/// Returns a layout of four memory blocks of one pageblock, with this greatest order, number of
-/// processors and room for records.
+/// Returns a layout of four memory blocks, each of one pageblock, with this greatest order and
+/// number of processors, and with room for `history` records.
 pub fn layout_with(alloc: Global, order: u64, cpus: u64, history: u64) -> Outcome<Layout> {
     let parts = Parts {
         order,

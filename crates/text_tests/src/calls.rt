@@ -56,7 +56,7 @@ fn begin(alloc: Global) -> Result<Event, AllocError> {
     })
 }
 
-/// Writes the calls of an operation.
+/// Writes an online, the calls of an operation, and an undo.
 fn write_operations(
     out: &mut String,
     alloc: Global,
@@ -72,7 +72,7 @@ fn write_operations(
     write_one(out, names, Event::UndoAfter { serial: Serial(4) })
 }
 
-/// Writes the calls that add and remove blocks.
+/// Writes the calls that add and remove blocks, and the one that sets what an added block becomes.
 fn write_blocks(out: &mut String, names: &IndexSet<Text>) -> Result<(), AllocError> {
     write_one(out, names, Event::Probe { address: 128 })?;
     write_one(out, names, Event::Remove { block: Block(3) })?;

@@ -44,7 +44,7 @@ fn is_object(alloc: Global, number: u64, answer: &LiveAnswer, wanted: &str) -> b
     }
 }
 
-/// Gives the session each line, and returns whether the reply is the object beside it.
+/// Gives the session each line, and returns whether each reply is the object beside its line.
 fn are_objects(session: &mut Session, alloc: Global, rows: &[(&str, &str)]) -> bool {
     let mut answer = LiveAnswer::new(alloc);
     let mut number = 0u64;
@@ -60,8 +60,8 @@ fn are_objects(session: &mut Session, alloc: Global, rows: &[(&str, &str)]) -> b
     true
 }
 
-/// Gives each line to a new session of four memory blocks, and returns whether the reply is the
-/// object beside it.
+/// Gives all lines to one new session of four memory blocks, and returns whether each reply is the
+/// object beside its line.
 fn are_written(alloc: Global, rows: &[(&str, &str)]) -> bool {
     let Ok(layout) = four_blocks(alloc, LAST_ABSENT, 100) else {
         return false;

@@ -26,8 +26,8 @@ const LINES: &[&str] = &[
     "0 seal",
 ];
 
-/// Some lines, with texts between them that are not lines. Three of these texts name an owner that
-/// no line names.
+/// Some lines, with texts between them that cannot be read as lines. Three of these texts name an
+/// owner that no line names.
 const WITH_OTHERS: &[&str] = &[
     "",
     "0 map web 3",
@@ -40,7 +40,8 @@ const WITH_OTHERS: &[&str] = &[
     "1 unmap web 3",
 ];
 
-/// Gives the session each text, and appends what it writes for them.
+/// Gives the session each text, and appends what it writes for them to `joined`. Returns whether
+/// there was memory for all.
 fn write_answers(
     session: &mut Session,
     alloc: Global,
@@ -68,8 +69,8 @@ fn serves(alloc: Global, scenario: &str, wanted: &str) -> bool {
     result == Ok(()) && written.as_slice() == wanted.as_bytes()
 }
 
-/// Returns whether a session writes for these texts, with its state at the end, what `hotplug
-/// serial` writes for its scenario.
+/// Gives the session these texts, and then has it write its state. Returns whether the whole output
+/// is what `hotplug serial` writes for the session's scenario.
 fn is_served(session: &mut Session, alloc: Global, texts: &[&str]) -> bool {
     let mut joined = String::new(alloc);
     let mut scenario = String::new(alloc);
@@ -97,8 +98,8 @@ fn is_answered(session: &mut Session, alloc: Global, text: &str, wanted: &str) -
     session.answer(alloc, text, &mut answer).is_ok() && answer.text() == wanted
 }
 
-/// Returns whether a name in a text that is no line gets no owner's number. The layout has two
-/// owners; after the text that is no line, a second name is still accepted, and a third is not.
+/// Returns whether a name gets no owner's number if its text cannot be read as a line. The layout
+/// has two owners. After such a text, a second name is still accepted, and a third is not.
 fn keeps_numbers(alloc: Global) -> bool {
     let Ok(layout) = four_blocks(alloc, LAST_ABSENT, 100) else {
         return false;

@@ -1,8 +1,8 @@
-//! Parts of pictures. Most are as hp_svg drew them when its text was proved to be that of a
-//! definition.
+//! Parts of pictures. Most were drawn by hp_svg while the text of its pictures was still proved to
+//! be that of a definition.
 use crate::pictures::{Block, ROWS, Row, Words};
 
-/// More names than letters. The first name is longer than its place in a legend.
+/// More names than letters. The first name is longer than the room that a legend has for it.
 pub(crate) const NAMES: &[Words] = &[
     "a name longer than this",
     "b",
@@ -259,7 +259,7 @@ pub(crate) const KERNEL_NUMBERS: &str =
      <text x='464' y='60'>block 1</text><text x='464' y='72'>frame 4</text>\n\
      <text x='544' y='60'>block 2</text><text x='544' y='72'>frame 8</text>\n";
 
-/// The size of the picture of `ROWS` at 25, 33 and 400 per cent.
+/// The size of the picture of `ROWS` at 25 percent. The next two are at 33 and at 400 percent.
 pub(crate) const QUARTER: &str = "width='205' height='38' viewBox='0 0 820 150'";
 
 pub(crate) const THIRD: &str = "width='271' height='50' viewBox='0 0 820 150'";

@@ -14,10 +14,11 @@ use std::test::Fail;
 
 pub(crate) type Words = &'static str;
 
-/// Free blocks: the place, the order, and whether they are isolated.
+/// Free blocks: the index of the first frame's character in the cells, the order, and whether they
+/// are isolated.
 pub(crate) type Free = &'static [(u32, u32, bool)];
 
-/// Kernel blocks: the place and the order.
+/// Kernel blocks: the index of the first frame's character in the cells, and the order.
 pub(crate) type Kernel = &'static [(u32, u32)];
 
 /// A memory block: its head, cells, free blocks, kernel blocks, and pageblocks' kinds.
@@ -26,7 +27,7 @@ pub(crate) type Block = (Words, Words, Free, Kernel, Words);
 /// A row: the call, the answer, the two frames of a page that moved, and the memory blocks.
 pub(crate) type Row = (Words, Words, Option<(u32, u32)>, &'static [Block]);
 
-/// Characters that XML escapes, and one that it does not allow.
+/// Characters that XML escapes, and a tab, which a picture shows as a question mark.
 const WORDS: &str = "<&>\"\t";
 
 /// Memory blocks with each kind of cell, free blocks, and pageblocks of each mobility.

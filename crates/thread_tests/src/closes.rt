@@ -35,7 +35,8 @@ fn maps<L: Job, R: Wait>(rt: &R, alloc: Global, shared: &Shared<L>, seat: &mut S
     }
 }
 
-/// Lets the first seat map a page, then seal, then the second one map its own. Returns the volume.
+/// Maps a page and seals through the first seat, and then maps a page through the second. Returns
+/// the volume, or `None` if one of these fails.
 fn sealed<L: Job, R: Wait>(
     rt: &R,
     alloc: Global,
@@ -53,9 +54,9 @@ fn sealed<L: Job, R: Wait>(
     None
 }
 
-/// Closes again, with the second seat, which was missing. Returns why the first close was refused,
-/// and how many records the second finds; `None` if the first did not hand back all else, or the
-/// second fails.
+/// Closes again, now also with the seat that was missing. Returns why the first close was refused,
+/// and how many records the second close finds. Returns `None` if the first did not hand back one
+/// seat and one volume, or if the second close fails.
 fn closed_with_seat<L: Job>(
     alloc: Global,
     refused: CloseRefused<L>,
@@ -77,9 +78,9 @@ fn closed_with_seat<L: Job>(
     }
 }
 
-/// Closes again, with the volume that was missing. Returns why the first close was refused, and how
-/// many records the second finds; `None` if the first did not hand back all else, or the second
-/// fails.
+/// Closes again, now also with the volume that was missing. Returns why the first close was
+/// refused, and how many records the second close finds. Returns `None` if the first did not hand
+/// back two seats and no volume, or if the second close fails.
 fn closed_with_volume<L: Job>(
     alloc: Global,
     refused: CloseRefused<L>,

@@ -38,8 +38,8 @@ fn closed_with<L: Job>(
     Some((fault, before, closed.records))
 }
 
-/// Puts a machine that came back under a lock, takes it out again, and closes it with one more
-/// seat.
+/// Puts the machine of a refused close under a lock again, takes it out, and closes it
+/// with one more seat.
 fn closed_again<L: Job>(alloc: Global, refused: NotClosed<L>, seat: Seat<L>) -> Option<Closed> {
     let mut back = refused.share();
     back.seats.push(seat).ok()?;

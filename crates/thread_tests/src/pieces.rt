@@ -1,4 +1,4 @@
-//! Streams that move pieces, and streams that fail.
+//! Streams that move bytes in pieces, and streams that fail.
 use super::streams::{Collected, SCENARIO, Scripted};
 use hp_commands::{ProgramFault, serve_serial};
 use hp_streams::{Counted, read_all, write_all};

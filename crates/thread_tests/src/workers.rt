@@ -65,7 +65,8 @@ impl Outcome {
     }
 }
 
-/// Closes a machine after a run without a fault.
+/// Closes a machine after a run, and reads its state. Returns `None` if the run ended with a fault,
+/// or if one of these fails.
 fn close_after<L: Job>(alloc: Global, shared: Shared<L>, end: RunEnd<L>) -> Option<Outcome> {
     let RunEnd {
         seats,
@@ -172,7 +173,7 @@ fn a_gate_opens_after_the_call_was_made(rt: HostRuntime) -> Result<(), Fail> {
     Ok(())
 }
 
-/// Returns whether the first owner's first page is at a frame.
+/// Returns whether the first owner's first page is at this frame.
 fn stands_at(state: &Image, frame: Frame) -> bool {
     state.frame_at(Owner(0), Page(0)) == Some(frame)
 }
@@ -198,11 +199,11 @@ fn a_page_is_written_between_the_calls_of_a_plan(rt: HostRuntime) -> Result<(), 
     Ok(())
 }
 
-/// For each call of a plan before which the plan's steps are undone: how many steps the undo takes
-/// back, and how many records there are at the end.
+/// In row n, the steps of a plan are undone before its n-th call. The row has the number of steps
+/// that the undo takes back, and the number of records at the end.
 const UNDONE: &[(u64, u64)] = &[(0, 8), (1, 4), (2, 5), (3, 6), (4, 7), (4, 8)];
 
-/// Maps a page, then runs a plan whose steps the other processor undoes before its nth call.
+/// Maps a page, then runs a plan. Before its nth call, the other processor undoes the plan's steps.
 fn undone_before<R: Threads + Wait + Sync>(
     rt: &R,
     alloc: Global,

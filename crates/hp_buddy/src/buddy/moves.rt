@@ -86,8 +86,8 @@ impl Buddy {
         1 << (self.layout.order() - order.0)
     }
 
-    /// Moves a pageblock's free blocks of one order, in rising order. Each starts at a
-    /// multiple of its size.
+    /// Moves a pageblock's free blocks of one order, lowest frame first. Each starts at a multiple
+    /// of its size.
     fn move_order(
         &mut self,
         from: Class,

@@ -30,8 +30,9 @@ impl Journal {
         self.entries.len() as u64
     }
 
-    /// Returns the deltas of step `at` of those that are not undone, counted from 0; `None` past
-    /// the last. Latest first, they lead back from the state after the step to the state before it.
+    /// Returns the deltas of step `at`, counted from 0 among the steps that are not undone;
+    /// `None` past the last. Latest first, they lead back from the state after the step to
+    /// the state before it.
     pub fn entry(&self, at: u64) -> Option<&[Delta]>
         ensures { MatchOption result (length (net_of self.now.history) ≤ at)
             (λ deltas. IsEntry self.now at deltas.now) }
@@ -47,9 +48,10 @@ impl Journal {
         Some(between(deltas, start, end))
     }
 
-    /// Returns the deltas of the steps from `at` on, counted from 0; `None` past the end of the
-    /// journal. Latest first, they lead back from the present state to the state before step `at`:
-    /// an undo that drops these steps takes these deltas off.
+    /// Returns the deltas of step `at` and of all later steps, counted as in `entry`: none if
+    /// `at` is the number of steps, and `None` if it is greater. Latest first, they lead back
+    /// from the present state to the state before step `at`: an undo that drops these steps
+    /// takes these deltas off.
     pub fn way_back(&self, at: u64) -> Option<&[Delta]>
         ensures { MatchOption result (length (net_of self.now.history) < at)
             (λ deltas. IsWayBack self.now at deltas.now) }

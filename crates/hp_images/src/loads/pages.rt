@@ -97,8 +97,8 @@ fn load_buffers(alloc: Global, pages: &mut Pages, image: &Image) -> Result<(), A
     Ok(())
 }
 
-/// Loads the words of one frame's page, if there is one, into its buffer. Words that
-/// are all 0 need none.
+/// If the frame holds a page, loads the page's words into the frame's buffer. Words that are all 0
+/// need no buffer.
 fn load_buffer(
     alloc: Global,
     pages: &mut Pages,

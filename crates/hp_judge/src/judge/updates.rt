@@ -45,7 +45,7 @@ impl Judge {
         self.count += 1;
     }
 
-    /// Counts an event without a law.
+    /// Counts an event that no law is about.
     fn apply_other(&mut self)
         requires { self.old.count < 2 ^ 63 }
         ensures size { self.new.size ≡ self.old.size }
@@ -123,7 +123,7 @@ impl Judge {
         self.blocks.set(at, state);
     }
 
-    /// Updates the tables with another event of a memory block.
+    /// Updates the tables with the end of an online, or with the start or the end of an offline.
     fn apply_transition(&mut self, block: Block, event: &LogEvent)
         requires inside { block < self.old.size.blocks }
         requires room { block < length self.old.blocks }

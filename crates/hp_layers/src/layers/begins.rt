@@ -35,7 +35,7 @@ impl Layers {
         Ok(Reply::Opened { op })
     }
 
-    /// Returns an upper bound of the deltas that claiming the blocks of a plan may note.
+    /// Returns an upper bound on the number of deltas that claiming the blocks of a plan may note.
     fn plan_room(&self, plan: &[Item]) -> usize
         ensures { claimed_below plan.now self.now.layout.blocks * moved_block_bound self.now.layout ≤ result }
     {

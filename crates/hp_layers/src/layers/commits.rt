@@ -99,7 +99,8 @@ impl Layers {
         self.frames.is_all_free(&self.layout, zone, block)
     }
 
-    /// Returns the lowest frame that is in no free block, of the first going block that has one.
+    /// Returns the lowest frame that is in no free block, in the first going block with such a
+    /// frame.
     fn frame_in_use(&self, blocks: &[Block]) -> Option<Frame>
         requires one { AreOfOneLayout self.now }
         requires within { (k : ℕ) → k < length blocks.now

@@ -87,8 +87,9 @@ impl Layers {
         Ok(Reply::Done)
     }
 
-    /// Writes one word of a mapped page. The first word that is not 0 allocates all words of the
-    /// page; a word of 2^32 or more allocates for its delta.
+    /// Writes one word of a mapped page. A word that is not 0 allocates a buffer if all words of
+    /// the page are 0. Any other write allocates for its delta if the old or the new word is 2^32
+    /// or more.
     pub(crate) fn write(
         &mut self,
         alloc: Global,

@@ -148,8 +148,8 @@ impl Layers {
         !item.wish.is_off() && !self.blocks.row(item.block).is_offline()
     }
 
-    /// Returns the lowest frame at which a kernel block starts, in the first block that is to go
-    /// offline and has one.
+    /// Returns the lowest frame at which a kernel block starts, in the plan's first block that is
+    /// to go offline and has a kernel block.
     fn first_unmovable(&self, plan: &[Item]) -> Option<Frame>
         requires one { AreOfOneLayout self.now }
         requires within { names_no_block self.now.layout plan.now ≡ false }

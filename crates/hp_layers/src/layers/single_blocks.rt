@@ -135,7 +135,8 @@ impl Layers {
         }
     }
 
-    /// Returns the refusal unless the block is offline and unclaimed.
+    /// Returns why the block cannot go online or be removed, or `None` if it is offline and
+    /// unclaimed.
     fn offline_refusal(&self, block: Block) -> Option<Refusal>
         requires one { AreOfOneLayout self.now }
         ensures { result ≡ first_some (event_refusals self.now.layout (state_of self.now) 0 (Remove block)) }
@@ -153,7 +154,8 @@ impl Layers {
         None
     }
 
-    /// Returns the refusal unless an absent block is at the byte address.
+    /// Returns why no block can be added at the byte address, or `None` if an absent block starts
+    /// there.
     fn probe_refusal(&self, address: u64) -> Option<Refusal>
         requires one { AreOfOneLayout self.now }
         ensures { result ≡ first_some (event_refusals self.now.layout (state_of self.now) 0 (Probe address)) }

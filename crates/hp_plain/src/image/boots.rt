@@ -1,4 +1,4 @@
-//! Brings memory blocks to what the layout gives for them at boot.
+//! Turns offline memory blocks into what they are at boot.
 ghost use Rattle.std.specs.Prelude.{◌≡◌, ◌<◌, OnOk};
 ghost use Rattle.hp_units.specs.Boot.{boot_block};
 ghost use Rattle.hp_units.specs.Rows.{online_block};
@@ -9,7 +9,7 @@ use hp_units::{Block, Boot, Row, State, Zone};
 use std::alloc::AllocError;
 
 impl Image {
-    /// Brings a block to what the layout gives for it.
+    /// Makes an offline block what `boot` gives: online in a zone, absent, or still offline.
     pub(super) fn boot_block(&mut self, block: Block, boot: Boot) -> Result<(), AllocError>
         requires { block < self.old.layout.blocks }
         ensures memory { OnOk result

@@ -14,7 +14,8 @@ impl Image {
     /// buddies of a class are joined.
     ///
     /// Check this before a state from elsewhere becomes the base of a history. Takes time linear in
-    /// the frames, the pages and the entries of the lists, and one byte per frame at a time.
+    /// the frames, the pages and the entries of the lists, and never more than one byte of memory
+    /// per frame.
     pub fn is_well_placed(&self, alloc: Global) -> Result<bool, AllocError>
         ensures { IfOk result (λ placed. MatchBool placed
             (IsWellPlaced self.now.layout self.now.memory)
@@ -36,7 +37,8 @@ impl Image {
     }
 
     /// Returns whether the lists, the kernel blocks and the pages are where they may be, and each
-    /// frame is in one place. The frames of offline and absent blocks must be marked before.
+    /// frame is in one place. Before, the frames of offline and absent blocks must be marked, and
+    /// no others.
     fn is_each_once(&self, marks: &mut Marks) -> bool
         requires { (frame : ℕ)
             → mark_of marks.old frame ≡ unplugged self.now.layout self.now.memory.blocks.rows frame }

@@ -38,7 +38,7 @@ fn parts_are_read(rt: HostRuntime) -> Result<(), Fail> {
     Ok(())
 }
 
-/// Returns whether a line is accepted, and a text that is no line is refused.
+/// Returns whether a line is accepted, and a text that cannot be read as a line is refused.
 fn are_lines_told(alloc: Global) -> Result<bool, AllocError> {
     Ok(is_line(alloc, "0 map db 1")? && !is_line(alloc, "0 map DB 1")?)
 }
