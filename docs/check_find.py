@@ -722,7 +722,7 @@ def check_no_lines(checks, programs):
     for text in NO_LINES:
         for option in ("--find", "--never"):
             status, said = programs.find(scenario, 0, option, ["done", text])
-            expected = (2, f"hotplug_lab: no end has the line `{text}`\n{LINE_FORMS}\n")
+            expected = (2, f"hotplug_lab: cannot read `{text}` as a line of an end\n{LINE_FORMS}\n")
             is_so = (status, said) == expected
             checks.holds(f"{option} {text!r}", is_so, f"says {status}, {said!r}")
 

@@ -46,7 +46,7 @@ from xml.etree import ElementTree
 
 from lab_json import check_json
 from lab_names import named_calls, plain_lines
-from lab_traces import check_drawn, check_long, check_wide, hostile
+from lab_traces import check_drawn, check_letters, check_long, check_wide, hostile
 
 ROOT = Path(__file__).resolve().parent.parent
 SECONDS = 60
@@ -428,6 +428,7 @@ def check_all(checks, programs):
         check_drawn(checks, programs, file.name, json.loads(file.read_text()))
     check_drawn(checks, programs, "hostile texts", hostile(ROOT))
     check_wide(checks, programs)
+    check_letters(checks, programs)
     check_long(checks, programs)
     check_json(checks, programs)
     check_runs(checks, programs)

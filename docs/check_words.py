@@ -278,18 +278,34 @@ def check_groups(checks, lab, scripts):
         refused = "hotplug_lab: --group may be blocks, answers or plans\n"
         checks.same(f"explore --group={by}", (2, "", refused),
                     lab.call("explore", f"--group={by}", scenario=scripts))
-    for boot, shown in ((["normal", "movable"] * 16, "0:N 1:M 2:N"),
-                        (["normal"] * 20 + ["movable"] * 11 + ["offline"],
-                         "0-19:N 20-30:M 31:off")):
+    for boot in (["normal", "movable"] * 16, ["normal"] * 20 + ["movable"] * 11 + ["offline"],
+                 ["normal", "movable"] * 9, [*["normal", "movable"] * 8, "normal", "offline"],
+                 [*["normal", "movable"] * 9, "normal"]):
         wide = {"layout": {**LAYOUT, "blocks": len(boot), "boot": boot}, "calls": ["0 drain 0"]}
-        status, out, error = lab.call("explore", "--summary", scenario=wide)
-        checks.same("explore --summary", (0, ["interleavings: 1", "ends: 1"], ""),
-                    (status, out.splitlines()[:2], error))
-        line = out.splitlines()[2]
-        start = f"end 1: 1, 100.0 %, {shown}"
-        is_so = line.startswith(start) and len(line) <= 100
-        checks.holds("explore --summary", is_so, f"writes {line!r}")
-        checks.same(f"explore --summary of {shown}", "31:off" not in shown, line.endswith(" .."))
+        checks.same(f"explore --summary of {boot}",
+                    (0, ["interleavings: 1", "ends: 1", summary_line(boot)], ""),
+                    lines_of(lab.call("explore", "--summary", scenario=wide)))
+
+
+def lines_of(result):
+    status, out, error = result
+    return status, out.splitlines(), error
+
+
+def summary_line(boot):
+    """The line of the only end, with all blocks as they are at boot, or cut at 100 columns."""
+    words, first, runs = {"normal": "N", "movable": "M", "offline": "off"}, 0, []
+    for last, state in enumerate(boot):
+        if last + 1 == len(boot) or boot[last + 1] != state:
+            runs.append(f" {first}-{last}:{words[state]}" if first < last else f" {first}:{words[state]}")
+            first = last + 1
+    whole = "end 1: 1, 100.0 %,"
+    if len(whole + "".join(runs)) <= 100:
+        return whole + "".join(runs)
+    for run in runs:
+        if len(whole + run + " ..") > 100:
+            return whole + " .."
+        whole += run
 
 
 def check_unbegun(checks, lab):

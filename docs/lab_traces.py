@@ -351,6 +351,18 @@ def check_wide(checks, programs):
             check_frame(checks, where, svg, 384 + 48 + cell * (frames + pageblocks - 1))
 
 
+def check_letters(checks, programs):
+    """A letter outside ASCII takes one column, as any other letter."""
+    layout = {"order": 0, "pageblocks": 4, "blocks": 3, "cpus": 1, "batch": 1, "high": 1, "owners": 1,
+              "pages": 2, "words": 1, "history": 20, "boot": ["normal", "movable", "offline"]}
+    for options in ((), ("--svg",)):
+        texts = [programs.trace({"layout": layout, "calls": [
+            f"0 cat {word}2/state", f"0 echo {word} probe"]}, *options)
+            for word in ("память", "pamyat")]
+        checks.holds(f"trace {options} of letters outside ASCII",
+                     texts[0].replace("память", "pamyat") == texts[1], f"has {texts[0]!r}")
+
+
 def check_narrow(checks, programs, where, scenario):
     """No row is longer than its width, unless it has a single word of the memory."""
     calls = [call for call in scenario["calls"] if " cat " not in call]

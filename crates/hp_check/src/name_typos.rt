@@ -142,9 +142,10 @@ fn cause(text: &str, word: &str, fault: NameFault) -> &'static str {
     }
 }
 
-/// Returns the first word that begins with a dollar sign, or the empty text if there is none.
+/// Returns the first word after the processor's that begins with a dollar sign, or the empty text if
+/// there is none.
 fn reference_in(text: &str) -> &str {
-    text.split(' ')
-        .find(|word| word.starts_with('$'))
-        .unwrap_or("")
+    let mut words = text.split(' ');
+    let _processor = words.next();
+    words.find(|word| word.starts_with('$')).unwrap_or("")
 }

@@ -184,7 +184,7 @@ fn write_warning(out: &mut String, warning: Warning) -> Result<(), AllocError> {
         }
         Warning::Turns { turns, history } => writeln!(
             out,
-            "a history of {history} records has no room for {turns} turns"
+            "a history of {history} records has no room for a plan with {turns} turns"
         ),
         Warning::Full { history } => writeln!(
             out,

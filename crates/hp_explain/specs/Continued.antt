@@ -7,7 +7,7 @@ use Rattle.std.proofs.lemmas.Option.{same_Some, slice_get_past}
 use Rattle.hp_units.specs.declared.replies.Record.{Record}
 use Rattle.hp_schedules.specs.Causes.{AnswerAlike}
 use Rattle.hp_units.specs.declared.events.Event.{Event}
-use Rattle.hp_schedules.specs.Continuing.{ContinuesAs, anonymous, anonymous_record}
+use Rattle.hp_schedules.specs.Continuing.{ContinueAlike, ContinuesAs, anonymous, anonymous_record}
 use Rattle.hp_schedules.specs.LineAnswers.{answers_at}
 use Rattle.hp_schedules.specs.Schedules.{Setting, next_call, plays, schedule_of}
 use Rattle.hp_schedules.proofs.Continuing.{continues_as}
@@ -186,16 +186,16 @@ as_long g h k rest same =
 -- `h` goes on to `end`. From `k`, the continuation `rest` gives the same further records, except that
 -- the numbers of operations may differ, and it is explained there
 record IsExplainedOn (g : Setting) (seen : List (List ObservedLine)) (rest : List ℕ) (h k : List Record)
-    (end : List Record) : Type 0 where
-  pub on : ContinuesAs g (schedule_of k) rest h k end
+    (alike : ContinueAlike g h k) (end : List Record) : Type 0 where
+  pub on : ContinuesAs g (schedule_of k) rest h k alike end
   pub few : length (schedule_of k ++ rest) ≤ calls_left g
   pub answered : AreAsSeen g seen (k ++ on.others)
   pub timed : AreInTime g seen (k ++ on.others)
 
 explained_on : (g : Setting) (seen : List (List ObservedLine)) (h k : List Record) (marks rest : List ℕ)
-    → HaveSameKey g h k → IsMarked g h marks → IsMarked g k marks
+    → (same : HaveSameKey g h k) → IsMarked g h marks → IsMarked g k marks
     → IsExplained g seen (schedule_of k) → (e : IsExplained g seen (schedule_of h ++ rest))
-    → IsExplainedOn g seen rest h k e.news
+    → IsExplainedOn g seen rest h k same.alike e.news
 explained_on g seen h k marks rest same a b here e = record {
   on = on;
   few = omega (arith, e.few, as_long g h k rest same);
@@ -209,7 +209,7 @@ explained_on g seen h k marks rest same a b here e = record {
       (subst (AreInTime g seen) on.end_is e.timed);
 }
   where
-    on : ContinuesAs g (schedule_of k) rest h k e.news
+    on : ContinuesAs g (schedule_of k) rest h k same.alike e.news
     on =
         continues_as g (schedule_of h) (schedule_of k) rest h k e.news same.mergeable same.first_played
         same.second_played same.alike e.played
@@ -218,8 +218,9 @@ explained_on g seen h k marks rest same a b here e = record {
     own = explained_news g seen (schedule_of k) k same.second_played here
 
 explained_alike : (g : Setting) (seen : List (List ObservedLine)) (h k : List Record) (rest : List ℕ)
-    (end : List Record) → IsExplainedOn g seen rest h k end → IsExplained g seen (schedule_of k ++ rest)
-explained_alike g seen h k rest end is = record {
+    (alike : ContinueAlike g h k) (end : List Record) → IsExplainedOn g seen rest h k alike end
+    → IsExplained g seen (schedule_of k ++ rest)
+explained_alike g seen h k rest alike end is = record {
   news = k ++ is.on.others;
   played = is.on.played;
   few = is.few;
@@ -238,7 +239,7 @@ unfolding explained_alike
 sought_alike g seen room longest h k marks rest same a b here (inl order) =
     let is = explained_on g seen h k marks rest same a b here order.begun in
     inl (record {
-      begun = explained_alike g seen h k rest order.begun.news is;
+      begun = explained_alike g seen h k rest same.alike order.begun.news is;
       over = λ cpu. over (next_call g cpu order.begun.news) (next_call g cpu (k ++ is.on.others))
           (is.on.calls cpu) (order.over cpu);
     })
@@ -248,7 +249,8 @@ sought_alike g seen room longest h k marks rest same a b here (inl order) =
     over None (Some e) calls none = absurd cc
     over (Some e) u calls none = absurd cc
 sought_alike g seen room longest h k marks rest same a b here (inr longer) = inr (
-  explained_alike g seen h k rest longer.0.news (explained_on g seen h k marks rest same a b here longer.0),
+  explained_alike g seen h k rest same.alike longer.0.news
+      (explained_on g seen h k marks rest same a b here longer.0),
   omega (arith, longer.1, as_long g h k rest same),
 )
 

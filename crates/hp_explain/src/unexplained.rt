@@ -134,8 +134,8 @@ fn write_standing_object(out: &mut String, standing: Standing) -> Result<(), All
     out.push('}')
 }
 
-/// Writes what comes next for a processor, as a key of its JSON object. Writes nothing unless it
-/// waits for a line, or its next call gives an answer.
+/// Writes what comes next for a processor, as a key of its JSON object. Writes nothing for a
+/// processor that has no call.
 fn write_next_keys(out: &mut String, next: Next) -> Result<(), AllocError> {
     match next {
         Next::Waits(unfinished) => {
@@ -145,8 +145,8 @@ fn write_next_keys(out: &mut String, next: Next) -> Result<(), AllocError> {
         }
         Next::Answered(answer) => write_answer_key(out, "next", Some(answer)),
         Next::Finished => Ok(()),
-        Next::GoesOn => Ok(()),
-        Next::HistoryFull => Ok(()),
+        Next::GoesOn => out.push_str(", \"goes_on\": true"),
+        Next::HistoryFull => out.push_str(", \"no_room\": true"),
     }
 }
 

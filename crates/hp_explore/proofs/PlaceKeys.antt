@@ -136,7 +136,7 @@ room_alike : (g : Setting) (p q rest : List ℕ) (h k : List Record) → AreMerg
 room_alike g p q rest h k all first second alike full =
     by_call (next_call g full.cpu (k ++ on.others)) refl
   where
-    on : ContinuesAs g q rest h k full.news
+    on : ContinuesAs g q rest h k alike full.news
     on = continues_as g p q rest h k full.news all first second alike full.played
 
     by_call : (o : Option Event) → next_call g full.cpu (k ++ on.others) ≡ o → HasNoRoom g (q ++ rest)
@@ -152,7 +152,7 @@ room_alike g p q rest h k all first second alike full =
       asked = asked;
       full =
           ap (λ (n : ℕ). nat_le g.layout.history n || nat_le 18446744073709551615 (g.before + n))
-          (sym (all_calls g full.news (k ++ on.others) on.alike.same.calls)) ∙ full.full;
+          (sym (all_calls g full.news (k ++ on.others) on.after.calls)) ∙ full.full;
     }
 
 -- so what is done from the one is done from the other

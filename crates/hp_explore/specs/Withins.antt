@@ -267,7 +267,7 @@ reaches_alike g wanted h k met rest xs ys same a b causes caused others reaches 
       (value_of g.layout g.base (g.start ++ reaches.1.news))) on.end_is) reaches.2)),
 )
   where
-    on : ContinuesAs g (schedule_of k) rest h k reaches.1.news
+    on : ContinuesAs g (schedule_of k) rest h k same.alike reaches.1.news
     on =
         continues_as g (schedule_of h) (schedule_of k) rest h k reaches.1.news same.mergeable
         same.first_played same.second_played same.alike reaches.1.played

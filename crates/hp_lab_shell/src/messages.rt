@@ -22,12 +22,12 @@ const LINE_FORMS: &str =
      `0: plan: done`, or a memory block, as `block 1 offline`; `not ` \
      before it wants an end without it";
 
-/// Prints on standard error that no end can have this text as a line, and which forms a line may
-/// have.
+/// Prints on standard error that this text cannot be read as a line of an end, and which forms a line
+/// may have.
 pub(crate) fn say_no_line(rt: &HostRuntime, text: &str) -> Result<(), AllocError> {
     let mut shown = String::new(rt.alloc());
     write_escaped(&mut shown, text, Brackets::Kept)?;
-    let _ = eprintln!(rt; "hotplug_lab: no end has the line `{shown}`\n{LINE_FORMS}");
+    let _ = eprintln!(rt; "hotplug_lab: cannot read `{shown}` as a line of an end\n{LINE_FORMS}");
     Ok(())
 }
 

@@ -13,7 +13,7 @@ use Rattle.hp_units.specs.declared.rows.Row.{Row}
 use Rattle.hp_renumbering.specs.Renumbered.{IsOneToOne, renumbered, renumbered_event, renumbered_row}
 use Rattle.hp_renumbering.proofs.Alike.{unseen_same}
 use Rattle.hp_schedules.specs.Alike.{AreMergeable, leaves_steps}
-use Rattle.hp_schedules.specs.Continuing.{AreSameBy, ContinueAlike, ContinuesAs, anonymous, anonymous_record}
+use Rattle.hp_schedules.specs.Continuing.{AreSameBy, ContinueAlike, ContinuesAs, anonymous, anonymous_record, renumbered_events}
 use Rattle.hp_schedules.specs.Outcomes.{ended_row, ended_rows_below}
 use Rattle.hp_schedules.specs.Schedules.{Setting, next_call, play_one, plays, record_of_call}
 use Rattle.hp_schedules.proofs.JoinedBy.{IsSameRecord}
@@ -55,6 +55,15 @@ records_anonymous p q (r ∷ more) [] same = absurd same
 records_anonymous p q (r ∷ more) (s ∷ others) same =
     ap (λ (first : Record). first ∷ map anonymous_record more) (record_anonymous p q r s same.0)
     ∙ ap (λ (rest : List Record). anonymous_record s ∷ rest) (records_anonymous p q more others same.1)
+
+events_same : (p q : ℕ → ℕ) (more others : List Record) → AreSameRecords p q more others
+    → renumbered_events p more ≡ renumbered_events q others
+events_same p q [] [] same = refl
+events_same p q [] (s ∷ others) same = absurd same
+events_same p q (r ∷ more) [] same = absurd same
+events_same p q (r ∷ more) (s ∷ others) same =
+    ap (λ (first : Event). first ∷ renumbered_events p more) same.0.receipt.event
+    ∙ ap (λ (rest : List Event). renumbered_event q s.event ∷ rest) (events_same p q more others same.1)
 
 -- ---- the same continuations
 
@@ -162,8 +171,8 @@ calls_anonymous p q (Some e) (Some d) are =
     ap Some (anonymous_same p q e d (same_Some (renumbered_event p e) (renumbered_event q d) are))
 
 pub continues_as : (g : Setting) (p q rest : List ℕ) (h k end : List Record) → AreMergeable g.scripts
-    → plays g p ≡ Some h → plays g q ≡ Some k → ContinueAlike g h k → plays g (p ++ rest) ≡ Some end
-    → ContinuesAs g q rest h k end
+    → plays g p ≡ Some h → plays g q ≡ Some k → (alike : ContinueAlike g h k)
+    → plays g (p ++ rest) ≡ Some end → ContinuesAs g q rest h k alike end
 unfolding value_of
 continues_as g p q rest h k end all first second alike whole = record {
   more = on.more;
@@ -172,13 +181,8 @@ continues_as g p q rest h k end all first second alike whole = record {
   played =
       plays_on g q rest ∙ (ap (λ (o : Option (List Record)). fold (play_one g) o rest) second ∙ on.played);
   same = records_anonymous alike.first_numbers alike.second_numbers on.more on.others on.same;
-  alike = record {
-    first_numbers = alike.first_numbers;
-    second_numbers = alike.second_numbers;
-    first_differ = alike.first_differ;
-    second_differ = alike.second_differ;
-    same = on.alike;
-  };
+  events = events_same alike.first_numbers alike.second_numbers on.more on.others on.same;
+  after = on.alike;
   calls = λ cpu. calls_anonymous alike.first_numbers alike.second_numbers (next_call g cpu end)
       (next_call g cpu (k ++ on.others))
       (call_same alike.first_numbers alike.second_numbers g end (k ++ on.others) cpu on.alike);

@@ -74,17 +74,24 @@ abbrev pub anonymous_record : Record → Record
 anonymous_record r =
     record { serial = r.serial; cpu = r.cpu; event = anonymous r.event; reply = r.reply }
 
--- h goes on to `end` by the records `more`. From k, the calls of `rest` have the same serials, events
--- and replies, except that events may name operations by other numbers. After both, the scripts go on
--- alike. Each processor's next calls differ at most in the numbers of their operations, and each memory
--- block has the same state and zone
-pub record ContinuesAs (g : Setting) (q rest : List ℕ) (h k end : List Record) : Type 0 where
+-- the records' events, in which `f` renumbers the operations
+abbrev pub renumbered_events : (f : ℕ → ℕ) → List Record → List Event
+renumbered_events f news = map (λ r. renumbered_event f r.event) news
+
+-- h goes on to `end` by the records `more`. From k, the calls of `rest` have the same serials and
+-- replies, and events that differ at most in the numbers of operations. The functions with which
+-- `alike` renumbers the operations of h and of k make these events equal too, and by them the scripts
+-- also go on alike after both. Each processor's next calls differ at most in the numbers of their
+-- operations, and each memory block has the same state and zone
+pub record ContinuesAs (g : Setting) (q rest : List ℕ) (h k : List Record) (alike : ContinueAlike g h k)
+    (end : List Record) : Type 0 where
   pub more : List Record
   pub others : List Record
   pub end_is : end ≡ h ++ more
   pub played : plays g (q ++ rest) ≡ Some (k ++ others)
   pub same : map anonymous_record more ≡ map anonymous_record others
-  pub alike : ContinueAlike g end (k ++ others)
+  pub events : renumbered_events alike.first_numbers more ≡ renumbered_events alike.second_numbers others
+  pub after : AreSameBy alike.first_numbers alike.second_numbers g end (k ++ others)
   pub calls : (cpu : ℕ)
       → option_map anonymous (next_call g cpu end) ≡ option_map anonymous (next_call g cpu (k ++ others))
   pub rows : (blocks : ℕ) → ended_rows_below blocks (value_of g.layout g.base (g.start ++ end))

@@ -43,12 +43,13 @@ pub fn alike_places_go_on_alike()
 {}
 
 /// If `are_mergeable` holds for the scripts, two beginnings that continue alike have the same
-/// continuations, call for call. Serials and replies are the same, and so are events, except that
-/// they may name operations by different numbers.
+/// continuations, call for call. Serials and replies are the same, and so are events, once the
+/// functions that renumber the operations of the beginnings renumber those of the events. By these
+/// functions, they also continue alike afterwards.
 pub fn alike_beginnings_continue_alike()
     ensures { (g : Setting) (p q rest : List ℕ) (h k end : List Record) → AreMergeable g.scripts
-        → plays g p ≡ Some h → plays g q ≡ Some k → ContinueAlike g h k → plays g (p ++ rest) ≡ Some end
-        → ContinuesAs g q rest h k end }
+        → plays g p ≡ Some h → plays g q ≡ Some k → (alike : ContinueAlike g h k)
+        → plays g (p ++ rest) ≡ Some end → ContinuesAs g q rest h k alike end }
 {}
 
 /// Whether a line is finished, and which receipts follow it, does not depend on the earlier result

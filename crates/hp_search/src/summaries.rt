@@ -102,8 +102,9 @@ fn refusals_in(all: &[Replies]) -> u64 {
     refused
 }
 
-/// Writes the states of the memory blocks, from block 0, as long as `out` followed by `CUT` has at
-/// most `most` bytes. Writes `CUT` in place of the others. Neighbours with equal states are joined.
+/// Writes the states of the memory blocks, from block 0, if `out` then has at most `most` bytes. If
+/// not, writes as many as leave room for `CUT`, and `CUT` in place of the others. Neighbours with
+/// equal states are joined.
 fn write_blocks(
     out: &mut String,
     alloc: Global,
@@ -117,7 +118,8 @@ fn write_blocks(
     for place in 0..rows.len() {
         if !is_like_next(rows, place) {
             let run = run_text(alloc, first, place, &rows[place])?;
-            if !has_room(out, &run, most) {
+            let is_last = place + 1 == rows.len();
+            if !has_room(out, &run, is_last, most) {
                 out.push_str(CUT)?;
                 return Ok(());
             }
@@ -128,10 +130,12 @@ fn write_blocks(
     Ok(())
 }
 
-/// Returns whether `out`, followed by `more` and `CUT`, has at most `most` bytes.
-fn has_room(out: &str, more: &str, most: usize) -> bool {
+/// Returns whether `out`, followed by `more` and then by `CUT` unless `more` is the last, has at most
+/// `most` bytes.
+fn has_room(out: &str, more: &str, is_last: bool, most: usize) -> bool {
     let long = out.len().saturating_add(more.len());
-    long.saturating_add(CUT.len()) <= most
+    let after = if is_last { 0 } else { CUT.len() };
+    long.saturating_add(after) <= most
 }
 
 /// Returns whether there are a row at index `place` and a next one, and both are equal.

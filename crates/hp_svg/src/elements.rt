@@ -43,7 +43,7 @@ pub(crate) fn write_fitted_text(
     room: u8,
     text: &str,
 ) -> Result<(), AllocError> {
-    if text.len() <= room as usize {
+    if text.chars().count() <= room as usize {
         return write_text(out, x, y, text);
     }
     let width = 6 * room as u32;

@@ -269,11 +269,11 @@ impl Sheet {
     }
 }
 
-/// Returns the extra height if a text has more than `room` bytes and so gets a line of its own.
+/// Returns the extra height if a text has more than `room` characters, and so a line of its own.
 pub(crate) fn lines_above(room: usize, text: &str) -> u128
     ensures { result ≤ 14 }
 {
-    if text.len() > room { 14 } else { 0 }
+    if text.chars().count() > room { 14 } else { 0 }
 }
 
 /// Returns the height of the texts of a row that are above its blocks.

@@ -24,14 +24,15 @@ pub(crate) fn write_row(
 }
 
 /// Returns what comes after a text in a column of this width: spaces up to the end of the column.
-/// After a text of more than `columns` bytes, it is a newline and `next` spaces.
+/// After a text of more than `columns` characters, it is a newline and `next` spaces.
 fn gap_after(alloc: Global, text: &str, columns: usize, next: usize) -> Result<String, AllocError> {
     let mut gap = String::new(alloc);
-    if text.len() > columns {
-        gap.push_str("\n")?;
-        push_spaces(&mut gap, next)?;
-    } else {
-        push_spaces(&mut gap, columns.saturating_sub(text.chars().count()))?;
+    match columns.checked_sub(text.chars().count()) {
+        Some(left) => push_spaces(&mut gap, left)?,
+        None => {
+            gap.push_str("\n")?;
+            push_spaces(&mut gap, next)?;
+        }
     }
     Ok(gap)
 }

@@ -67,7 +67,7 @@ const CHECKED: &[Checked] = &[
          calls 10 (line 3): warning: frame 4 is past the layout, which has 4, counted from 0\n\
          calls 11 (line 3): warning: block 2 is past the layout, which has 2, counted from 0\n\
          calls 12 (line 4): warning: block 9 is past the layout, which has 2, counted from 0\n\
-         calls 13 (line 4): warning: a history of 40 records has no room for 50 turns\n\
+         calls 13 (line 4): warning: a history of 40 records has no room for a plan with 50 turns\n\
          calls 15 (line 4): warning: echo: fault BadText\n\
          calls 16 (line 4): warning: cat: fault NoFile\nfaults: 0, warnings: 12\n",
     ),

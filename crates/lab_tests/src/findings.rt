@@ -213,9 +213,9 @@ const ECHOED: Checked = (
      \"calls\":[\"0 plan 1024 off 1\",\"0 echo offline memory1/state\",\"0 plan 1023 off 1\",\n\
      \"0 echo 0 memory1/online\",\"0 echo online memory1/state\",\"0 echo offline memory2/state\",\n\
      \"2 echo offline memory1/state\"]}",
-    "calls 1 (line 2): warning: a history of 1027 records has no room for 1024 turns\n\
-     calls 2 (line 2): warning: a history of 1027 records has no room for 1024 turns\n\
-     calls 4 (line 3): warning: a history of 1027 records has no room for 1024 turns\n\
+    "calls 1 (line 2): warning: a history of 1027 records has no room for a plan with 1024 turns\n\
+     calls 2 (line 2): warning: a history of 1027 records has no room for a plan with 1024 turns\n\
+     calls 4 (line 3): warning: a history of 1027 records has no room for a plan with 1024 turns\n\
      calls 6 (line 3): warning: block 2 is past the layout, which has 2, counted from 0\n\
      calls 7 (line 4): warning: processor 2 is past the layout, which has 2, counted from 0\n\
      faults: 0, warnings: 5\n",
