@@ -64,7 +64,7 @@ def place_object(place):
         other, line = place.waits
         return {**value, "after": {"cpu": other, "line": line + 1}, "answer": place.was}
     if place.would is None:
-        return {**value, "goes_on": True, "answer": place.was}
+        return {**value, "no_room": True, "answer": place.was}
     return {**value, "next": place.would, "answer": place.was}
 
 
