@@ -172,8 +172,9 @@ def check_scenarios(checks, programs):
                  f"says {status}, {text!r}, {told!r}")
     status, text, told = programs.explain(scenario_of(*long, history=5), done, "--json")
     last = json.loads(text)["processors"][1]
-    checks.same("a history that is full too soon, as JSON", (3, "", {
-        "finished": 2, "lines": 3, "no_room": True, "answer": "done"}), (status, told, last))
+    is_so = (status, told, last) == (3, "", {
+        "finished": 2, "lines": 3, "no_room": True, "answer": "done"})
+    checks.holds("a history that is full too soon, as JSON", is_so, f"says {status}, {text!r}, {told!r}")
     told = programs.explain(scenario_of(*long, history=6), done)
     checks.holds("a full history", told[0] == 0, f"says {told}")
     told = programs.explain(scenario_of(), "cpu 0\ncpu 1\n0 records\n")
