@@ -1,51 +1,101 @@
 -- The operations by which a search numbers operations, as it goes on and back.
-use Rattle.std.proofs.Common.{◌≡◌, ℕ, List, [], ◌∷◌, ◌++◌, length, reverse, refl, ap, subst, sym, ◌∙◌, arith}
-use Rattle.std.proofs.lemmas.List.{length_push, reverse-append, same_from_push}
+use Rattle.std.proofs.Common.{◌≡◌, ℕ, ◌-◌, List, [], ◌∷◌, ◌++◌, drop, length, take, refl, ap, subst, sym, ◌∙◌, arith}
+use Rattle.std.specs.Prelude.{fold, slice_range}
+use Rattle.std.specs.List.{range_with_len}
+use Rattle.std.proofs.Math.Seq.{drop-append_seam, take-append_seam}
+use Rattle.std.proofs.lemmas.List.{append-nil, append_assoc, length-append, length-drop, take_all}
+use Rattle.std.proofs.lemmas.List.FromFn.{length-map-range_with_len}
+use Rattle.std.proofs.lemmas.List.Sums.{fold_push}
+use Rattle.hp_units.specs.Receipts.{receipts_of}
 use Rattle.hp_units.specs.declared.replies.Record.{Record}
 use Rattle.hp_renumbering.specs.Numberings.{number_of}
 use Rattle.hp_schedules.specs.Schedules.{Setting}
-use Rattle.hp_schedules.specs.Scripts.{greatest_named}
-use Rattle.hp_explore.specs.LatestOps.{AreLatests, numbering, ops_at}
+use Rattle.hp_schedules.specs.Scripts.{greatest_named, own_operation}
+use Rattle.hp_explore.specs.LatestOps.{Along, AreLatestAt, along, along_with, ended, last_of, latest_here, numbering, ops_after, ops_at}
+use Rattle.hp_explore.specs.declared.latest_ops.LatestOps.{LatestOps}
 
--- before any call
-pub latest_begun : (g : Setting) (ops : List ℕ) (earlier : List (List ℕ)) → ops ≡ ops_at g []
-    → AreLatests g [] (ops ∷ earlier)
-latest_begun g ops earlier is =
-    (is, λ before r longer. absurd (omega (arith, length_push before r, ap length longer)))
+-- ---- the operations at the places of a path
+
+-- the latest ones are those of the place
+along_at : (g : Setting) (news : List Record) (a : Along) → a.here ≡ ops_at g a.all
+    → (fold (along_with g) a news).here ≡ ops_at g (fold (along_with g) a news).all
+along_at g [] a at = at
+along_at g (r ∷ news) a at = along_at g news (along_with g a r) refl
+
+along_all : (g : Setting) (news : List Record) (a : Along)
+    → (fold (along_with g) a news).all ≡ a.all ++ news
+along_all g [] a = sym (append-nil a.all)
+along_all g (r ∷ news) a = along_all g news (along_with g a r) ∙ append_assoc a.all (r ∷ []) news
+
+abbrev begun : (g : Setting) → Along
+begun g = record { all = []; earlier = []; here = ops_at g [] }
+
+along_here : (g : Setting) (news : List Record) → (along g news).here ≡ ops_at g news
+along_here g news = along_at g news (begun g) refl ∙ ap (ops_at g) (along_all g news (begun g))
+
+-- one per processor
+ops_many : (g : Setting) (news : List Record) → length (ops_at g news) ≡ length g.scripts
+unfolding ops_at
+ops_many g news =
+    length-map-range_with_len (λ (cpu : ℕ). own_operation (receipts_of cpu (ended news).kept)) 0
+    (length g.scripts)
+
+here_many : (g : Setting) (news : List Record) → length (along g news).here ≡ length g.scripts
+here_many g news = ap length (along_here g news) ∙ ops_many g news
+
+-- the last ones of a list that ends with them
+last_is : (count : ℕ) (earlier here : List ℕ) → length here ≡ count → last_of count (earlier ++ here) ≡ here
+last_is count earlier here many =
+    ap (λ (n : ℕ). drop n (earlier ++ here)) (omega (arith, many, length-append earlier here))
+    ∙ drop-append_seam earlier here
+
+-- as a range of the list
+pub last_range : (count first size : ℕ) (numbers : List ℕ) → size ≡ length numbers → first ≡ size - count
+    → slice_range numbers first size ≡ last_of count numbers
+last_range count first size numbers many is =
+    ap (λ (n : ℕ). slice_range numbers n size) (is ∙ ap (λ (n : ℕ). n - count) many)
+    ∙ (ap (slice_range numbers (length numbers - count)) many
+    ∙ take_all (length numbers - (length numbers - count)) (drop (length numbers - count) numbers)
+    (omega (arith, length-drop (length numbers - count) numbers)))
+
+pub here_at : (g : Setting) (news : List Record) (l : LatestOps) → AreLatestAt g news l
+    → latest_here l ≡ ops_at g news
+here_at g news l are =
+    ap (last_of l.processors) are.1
+    ∙ (last_is l.processors (along g news).earlier (along g news).here (here_many g news ∙ sym are.0)
+    ∙ along_here g news)
 
 -- after one call more
-pub latest_on : (g : Setting) (news : List Record) (r : Record) (ops : List ℕ) (earlier : List (List ℕ))
-    → ops ≡ ops_at g (news ++ r ∷ []) → AreLatests g news earlier
-    → AreLatests g (news ++ r ∷ []) (ops ∷ earlier)
-latest_on g news r ops earlier is are = (
-  is,
-  λ before s longer. subst (λ (h : List Record). AreLatests g h earlier)
-      (same_from_push news before r s longer).0 are,
-)
+along_more : (g : Setting) (news : List Record) (r : Record)
+    → (along g (news ++ r ∷ [])).earlier ++ (along g (news ++ r ∷ [])).here
+    ≡ ((along g news).earlier ++ (along g news).here) ++ ops_at g (news ++ r ∷ [])
+along_more g news r =
+    ap (λ (a : Along). a.earlier ++ a.here) (fold_push (along_with g) (begun g) news r)
+    ∙ ap (λ (all : List Record). ((along g news).earlier ++ (along g news).here) ++ ops_at g (all ++ r ∷ []))
+    (along_all g news (begun g))
 
-pub latest_pushed : (g : Setting) (news : List Record) (r : Record) (ops here : List ℕ)
-    (before new : List (List ℕ))
-    → new ≡ before ++ here ∷ [] → ops ≡ ops_at g (news ++ r ∷ [])
-    → AreLatests g news (here ∷ reverse before) → AreLatests g (news ++ r ∷ []) (ops ∷ reverse new)
-latest_pushed g news r ops here before new is at are =
-    subst (λ (earlier : List (List ℕ)). AreLatests g (news ++ r ∷ []) (ops ∷ earlier))
-    (sym (ap reverse is ∙ reverse-append before (here ∷ [])))
-    (latest_on g news r ops (here ∷ reverse before) at are)
+pub latest_more : (g : Setting) (news : List Record) (r : Record) (old : LatestOps) (new ops : List ℕ)
+    → new ≡ old.ops.items ++ ops → ops ≡ ops_at g (news ++ r ∷ []) → AreLatestAt g news old
+    → new ≡ (along g (news ++ r ∷ [])).earlier ++ (along g (news ++ r ∷ [])).here
+latest_more g news r old new ops is at are =
+    is ∙ (ap (λ (last : List ℕ). old.ops.items ++ last) at
+    ∙ (ap (λ (earlier : List ℕ). earlier ++ ops_at g (news ++ r ∷ [])) are.1 ∙ sym (along_more g news r)))
 
 -- and back over it
-pub latest_back : (g : Setting) (news : List Record) (r : Record) (here : List ℕ)
-    (before rest : List (List ℕ)) (popped : List ℕ)
-    → before ≡ rest ++ popped ∷ []
-    → AreLatests g (news ++ r ∷ []) (here ∷ reverse before) → AreLatests g news (popped ∷ reverse rest)
-latest_back g news r here before rest popped is are =
-    subst (AreLatests g news) (ap reverse is ∙ reverse-append rest (popped ∷ [])) (are.1 news r refl)
-
--- a place that has one before it is not the first on the path
-pub latest_first : (g : Setting) (news : List Record) (r : Record) (here : List ℕ)
-    (before : List (List ℕ))
-    → before ≡ [] → AreLatests g (news ++ r ∷ []) (here ∷ reverse before) → ⊥
-latest_first g news r here before none are =
-    subst (λ (earlier : List (List ℕ)). AreLatests g news (reverse earlier)) none (are.1 news r refl)
+pub latest_less : (g : Setting) (news : List Record) (r : Record) (l : LatestOps)
+    → AreLatestAt g (news ++ r ∷ []) l
+    → take (length l.ops.items - l.processors) l.ops.items ≡ (along g news).earlier ++ (along g news).here
+latest_less g news r l are =
+    let path : l.ops.items ≡ ((along g news).earlier ++ (along g news).here) ++ ops_at g (news ++ r ∷ []) =
+    are.1 ∙ along_more g news r in
+    ap (λ (all : List ℕ). take (length all - l.processors) all) path
+    ∙ (ap (λ (n : ℕ). take n (((along g news).earlier ++ (along g news).here) ++ ops_at g (news ++ r ∷ [])))
+    (omega (
+      arith,
+      are.0,
+      ops_many g (news ++ r ∷ []),
+      length-append ((along g news).earlier ++ (along g news).here) (ops_at g (news ++ r ∷ [])),
+    )) ∙ take-append_seam ((along g news).earlier ++ (along g news).here) (ops_at g (news ++ r ∷ [])))
 
 -- ---- the numbers at a place
 

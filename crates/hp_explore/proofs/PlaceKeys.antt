@@ -3,7 +3,10 @@ use Rattle.std.proofs.Common.{◌≡◌, ℕ, suc, ◌+◌, List, [], ◌∷◌,
 use Rattle.std.specs.Prelude.{◌||◌, nat_le, option_map}
 use Rattle.std.proofs.lemmas.Option.{none-some}
 use Rattle.std.proofs.lemmas.List.{append_assoc}
+use Rattle.hp_units.specs.Placement.{IsShaped}
 use Rattle.hp_units.specs.declared.replies.Record.{Record}
+use Rattle.hp_memory.specs.Memory.{MemoryValue}
+use Rattle.hp_renumbering.specs.Renumbered.{renumbered}
 use Rattle.hp_schedules.specs.Alike.{AreMergeable}
 use Rattle.hp_units.specs.declared.events.Event.{Event}
 use Rattle.hp_renumbering.proofs.Numbered.{differ}
@@ -16,13 +19,17 @@ use Rattle.hp_schedules.specs.Scripts.{greatest_named}
 use Rattle.hp_schedules.proofs.Continuing.{continues_as}
 use Rattle.hp_schedules.proofs.SameCalls.{all_calls}
 use Rattle.hp_schedules.proofs.Steering.{steered_same}
+use Rattle.hp_states.specs.Codes.{place_code}
+use Rattle.hp_states.specs.Places.{memory_at}
 use Rattle.hp_states.specs.Rooms.{HasNoRoom}
-use Rattle.hp_states.specs.Stops.{AreNumbersAt, AreStopsAt, StopsValue}
-use Rattle.hp_states.proofs.StopNumbers.{numbers_join}
+use Rattle.hp_states.specs.Numbered.{IsNumbered}
+use Rattle.hp_states.specs.Stops.{AreStopsAt, StopsValue}
+use Rattle.hp_states.proofs.Coded.{places_apart}
+use Rattle.hp_states.proofs.StopNumbers.{openings_join}
 use Rattle.hp_explore.specs.Aims.{AimValue, AreSteered, IsDone, IsLawful}
 use Rattle.hp_explore.specs.SteeredBelow.{steered_apart, steered_at}
 use Rattle.hp_explore.specs.LatestOps.{numbering, ops_at}
-use Rattle.hp_explore.specs.Visited.{IsPlaceKey}
+use Rattle.hp_explore.specs.Visited.{ArePlaceNumbers, IsPlaceKey, numbered_state}
 use Rattle.hp_explore.proofs.LatestNumbers.{later_number, scripts_named}
 
 -- ---- parts of keys
@@ -45,33 +52,32 @@ steered_more p scripts news cursors cpu old mid new so_far more = (
       (so_far.0, more.0, refl, more.2 g are at, so_far.2 g are at),
 )
 
--- a key is written part by part
-pub key_made : (g : Setting) (aim : AimValue) (stops : StopsValue) (news given : List Record)
+-- the numbers are written part by part
+pub numbers_made : (g : Setting) (aim : AimValue) (stops : StopsValue) (news given : List Record)
     (scripts : List (List Step)) (cursors : List Cursor) (processors : ℕ) (numbers : ℕ → ℕ)
-    (none first second key : List ℕ)
+    (none first second all : List ℕ)
     → none ≡ [] → processors ≡ length g.scripts → scripts ≡ g.scripts → given ≡ news
     → numbers ≡ numbering g news → AreCursors g news cursors → AreStopsAt (numbering g) g news stops
-    → ((state : ℕ) × (openings : ℕ) × (first ≡ none ++ state ∷ openings ∷ [])
+    → ((openings : ℕ) × (first ≡ none ++ openings ∷ [])
     × ((at : List Record → ℕ → ℕ) (g : Setting) (news : List Record) → AreStopsAt at g news stops
-    → AreNumbersAt (at news) g news stops state openings))
+    → IsNumbered (at news) g stops.codes stops.lists news (Some openings)))
     → ((part : List ℕ) × (second ≡ first ++ part)
     × ((g : Setting) → g.scripts ≡ scripts → AreCursors g given cursors
     → AreSteered numbers g processors given part))
-    → ((part : List ℕ) × (key ≡ second ++ part) × aim.marks news part)
-    → IsPlaceKey g aim stops news key
-key_made g aim stops news given scripts cursors processors numbers none first second key empty many are told
-    numbered at stands written steering marks = record {
-      state = written.0;
-      openings = written.1;
+    → ((part : List ℕ) × (all ≡ second ++ part) × aim.marks news part)
+    → ArePlaceNumbers g aim stops news all
+numbers_made g aim stops news given scripts cursors processors numbers none first second all empty many are
+    told numbered at stands written steering marks = record {
+      openings = written.0;
       steering = steering.0;
       marks = marks.0;
-      key_is =
+      numbers_are =
           marks.1
           ∙ ap (λ (xs : List ℕ). xs ++ marks.0)
           (steering.1
           ∙ ap (λ (xs : List ℕ). xs ++ steering.0)
-          (written.2 ∙ ap (λ (xs : List ℕ). xs ++ written.0 ∷ written.1 ∷ []) empty));
-      numbers_are = written.3 (numbering g) g news stands;
+          (written.1 ∙ ap (λ (xs : List ℕ). xs ++ written.0 ∷ []) empty));
+      numbered = written.2 (numbering g) g news stands;
       steered =
           subst (λ (p : ℕ → ℕ). AreSteered p g (length g.scripts) news steering.0) numbered
           (subst (λ (n : ℕ). AreSteered numbers g n news steering.0) many
@@ -80,18 +86,38 @@ key_made g aim stops news given scripts cursors processors numbers none first se
       marked = marks.2;
     }
 
+-- the key has the numbers and the state
+pub place_key : (g : Setting) (aim : AimValue) (stops : StopsValue) (news : List Record)
+    (numbers : List ℕ) (p : ℕ → ℕ) (m : MemoryValue)
+    → IsShaped m.layout (renumbered p m.state) → p ≡ numbering g news → m ≡ memory_at g news
+    → ArePlaceNumbers g aim stops news numbers
+    → IsPlaceKey g aim stops news (place_code m.layout numbers (renumbered p m.state))
+place_key g aim stops news numbers p m shaped same here are = record {
+  numbers = numbers;
+  are = are;
+  key_is =
+      ap (λ (q : ℕ → ℕ). place_code m.layout numbers (renumbered q m.state)) same
+      ∙ ap (λ (v : MemoryValue). place_code v.layout numbers (renumbered (numbering g news) v.state)) here;
+  shaped =
+      subst (λ (v : MemoryValue). IsShaped v.layout (renumbered (numbering g news) v.state)) here
+      (subst (λ (q : ℕ → ℕ). IsShaped m.layout (renumbered q m.state)) same shaped);
+}
+
 -- the parts of two keys that are one
 pub key_parts : (g : Setting) (aim : AimValue) (stops : StopsValue) (h k : List Record)
     (key : List ℕ)
     → (a : IsPlaceKey g aim stops h key) → (b : IsPlaceKey g aim stops k key)
-    → (a.state ≡ b.state) × (a.openings ≡ b.openings) × (a.steering ≡ b.steering) × (a.marks ≡ b.marks)
+    → (numbered_state g h ≡ numbered_state g k) × (a.are.openings ≡ b.are.openings)
+    × (a.are.steering ≡ b.are.steering) × (a.are.marks ≡ b.are.marks)
 key_parts g aim stops h k key a b =
-    let same : a.state ∷ a.openings ∷ (a.steering ++ a.marks)
-    ≡ b.state ∷ b.openings ∷ (b.steering ++ b.marks) =
-    sym a.key_is ∙ b.key_is in
-    let both = steered_apart (numbering g h) (numbering g k) g h k (length g.scripts) a.steering
-    b.steering a.marks b.marks (omega arith) a.steered b.steered (cc) in (
-      (cc),
+    let places = places_apart g.layout a.numbers b.numbers (numbered_state g h) (numbered_state g k) a.shaped
+    b.shaped (sym a.key_is ∙ b.key_is) in
+    let same : a.are.openings ∷ (a.are.steering ++ a.are.marks)
+    ≡ b.are.openings ∷ (b.are.steering ++ b.are.marks) =
+    sym a.are.numbers_are ∙ (places.0 ∙ b.are.numbers_are) in
+    let both = steered_apart (numbering g h) (numbering g k) g h k (length g.scripts) a.are.steering
+    b.are.steering a.are.marks b.are.marks (omega arith) a.are.steered b.are.steered (cc) in (
+      places.1,
       (cc),
       both.0,
       both.1,
@@ -114,20 +140,19 @@ keys_alike g aim stops h k key lawful mergeable first second a b = record {
       (λ n past. later_number g h n first past
       ∙ sym (later_number g k n second (omega (arith, past, all_calls g h k calls))))
       (λ cpu lines here. scripts_named (ops_at g h) (ops_at g k) g.scripts cpu lines here)
-      (λ cpu within. steered_at (numbering g h) (numbering g k) g h k a.steering b.steering same.2
-      a.steered b.steered cpu within)
-      (numbers_join (numbering g h) (numbering g k) g stops h k b.state b.openings
-      (subst (λ (n : ℕ). AreNumbersAt (numbering g h) g h stops n b.openings) same.0
-      (subst (λ (n : ℕ). AreNumbersAt (numbering g h) g h stops a.state n) same.1 a.numbers_are))
-      b.numbers_are);
+      (λ cpu within. steered_at (numbering g h) (numbering g k) g h k a.are.steering b.are.steering same.2
+      a.are.steered b.are.steered cpu within)
+      (openings_join (numbering g h) (numbering g k) g stops h k b.are.openings same.0
+      (subst (λ (n : ℕ). IsNumbered (numbering g h) g stops.codes stops.lists h (Some n)) same.1
+      a.are.numbered) b.are.numbered);
 }
   where
-    same : (a.state ≡ b.state) × (a.openings ≡ b.openings) × (a.steering ≡ b.steering)
-        × (a.marks ≡ b.marks)
+    same : (numbered_state g h ≡ numbered_state g k) × (a.are.openings ≡ b.are.openings)
+        × (a.are.steering ≡ b.are.steering) × (a.are.marks ≡ b.are.marks)
     same = key_parts g aim stops h k key a b
 
     calls : length h ≡ length k
-    calls = lawful.counted h k b.marks first second (subst (aim.marks h) same.3 a.marked) b.marked
+    calls = lawful.counted h k b.are.marks first second (subst (aim.marks h) same.3 a.are.marked) b.are.marked
 
 -- a call for which the history has no room has none from the other
 room_alike : (g : Setting) (p q rest : List ℕ) (h k : List Record) → AreMergeable g.scripts
@@ -165,26 +190,26 @@ pub done_alike : (g : Setting) (aim : AimValue) (stops : StopsValue) (h k : List
     → IsDone g aim (schedule_of h) → IsDone g aim (schedule_of k)
 done_alike g aim stops h k key lawful mergeable first second admitted here a b done = (
   λ s sought on. done.0 (schedule_of h ++ on.0)
-      (lawful.continued k h b.marks on.0 (record {
+      (lawful.continued k h b.are.marks on.0 (record {
         mergeable = mergeable;
         first_played = second;
         second_played = first;
         alike = back;
         first_numbers = numbering g k;
         second_numbers = numbering g h;
-        steering = b.steering;
-        first_steered = b.steered;
+        steering = b.are.steering;
+        first_steered = b.are.steered;
         second_steered =
-            subst (AreSteered (numbering g h) g (length g.scripts) h) same.2 a.steered;
-      }) here admitted b.marked (subst (aim.marks h) same.3 a.marked) (subst aim.sought on.1 sought))
+            subst (AreSteered (numbering g h) g (length g.scripts) h) same.2 a.are.steered;
+      }) here admitted b.are.marked (subst (aim.marks h) same.3 a.are.marked) (subst aim.sought on.1 sought))
       (on.0, refl),
   λ whole s full on. done.1 whole (schedule_of h ++ on.0)
       (room_alike g (schedule_of k) (schedule_of h) on.0 k h mergeable second first back
       (subst (HasNoRoom g) on.1 full)) (on.0, refl),
 )
   where
-    same : (a.state ≡ b.state) × (a.openings ≡ b.openings) × (a.steering ≡ b.steering)
-        × (a.marks ≡ b.marks)
+    same : (numbered_state g h ≡ numbered_state g k) × (a.are.openings ≡ b.are.openings)
+        × (a.are.steering ≡ b.are.steering) × (a.are.marks ≡ b.are.marks)
     same = key_parts g aim stops h k key a b
 
     back : ContinueAlike g k h

@@ -1,5 +1,5 @@
 -- The places that a search has visited, as it goes on and back.
-use Rattle.std.proofs.Common.{◌≡◌, ℕ, true, List, [], ◌∷◌, ◌++◌, length, Some, slice_get, ap, sym, subst, ◌∙◌, arith, inl, inr}
+use Rattle.std.proofs.Common.{◌≡◌, ℕ, Bool, true, false, List, [], ◌∷◌, ◌++◌, length, Some, slice_get, ap, sym, subst, ◌∙◌, arith, inl, inr}
 use Rattle.std.specs.Prelude.{◌⊎◌}
 use Rattle.std.proofs.lemmas.List.{append-nil, append_assoc, length-append, length-map, length_push}
 use Rattle.hp_laws.proofs.Lists.{get_push_cases}
@@ -8,12 +8,13 @@ use Rattle.hp_schedules.specs.Alike.{AreMergeable}
 use Rattle.hp_schedules.specs.Continuing.{ContinueAlike}
 use Rattle.hp_schedules.specs.Orders.{Extends}
 use Rattle.hp_schedules.specs.Schedules.{Setting, plays, schedule_of}
+use Rattle.hp_states.specs.Codes.{IsFoundOrAdded}
 use Rattle.hp_states.specs.Stops.{KeepStops, StopsValue}
 use Rattle.hp_explore.specs.LatestOps.{numbering}
 use Rattle.hp_states.proofs.Rooms.{push_extends}
-use Rattle.hp_states.proofs.StopNumbers.{numbers_kept}
+use Rattle.hp_states.proofs.Numbered.{number_kept}
 use Rattle.hp_explore.specs.Aims.{AimValue, IsDone, IsLawful, IsNarrower}
-use Rattle.hp_explore.specs.Visited.{AreVisited, IsKept, IsKnown, IsPlaceKey, IsVisited}
+use Rattle.hp_explore.specs.Visited.{AreVisited, ArePlaceNumbers, IsKept, IsKnown, IsPlaceKey, IsVisited}
 use Rattle.hp_explore.specs.declared.visited.Visited.{Visited}
 use Rattle.hp_explore.proofs.PlaceKeys.{done_alike, keys_alike}
 
@@ -53,18 +54,28 @@ known_done g aim before cpu news v lawful played longer admitted visited known =
         ))
 
 -- as more numbers come
-key_kept : (g : Setting) (aim : AimValue) (old new : StopsValue)
-    (news : List Record) (key : List ℕ)
+pub place_numbers_kept : (g : Setting) (aim : AimValue) (old new : StopsValue) (news : List Record)
+    (numbers : List ℕ)
+    → KeepStops old new → ArePlaceNumbers g aim old news numbers → ArePlaceNumbers g aim new news numbers
+place_numbers_kept g aim old new news numbers keep are = record {
+  openings = are.openings;
+  steering = are.steering;
+  marks = are.marks;
+  numbers_are = are.numbers_are;
+  numbered =
+      number_kept (numbering g news) g old.codes new.codes old.lists new.lists news (Some are.openings)
+      keep.codes keep.lists are.numbered;
+  steered = are.steered;
+  marked = are.marked;
+}
+
+pub key_kept : (g : Setting) (aim : AimValue) (old new : StopsValue) (news : List Record) (key : List ℕ)
     → KeepStops old new → IsPlaceKey g aim old news key → IsPlaceKey g aim new news key
 key_kept g aim old new news key keep is = record {
-  state = is.state;
-  openings = is.openings;
-  steering = is.steering;
-  marks = is.marks;
+  numbers = is.numbers;
+  are = place_numbers_kept g aim old new news is.numbers keep is.are;
   key_is = is.key_is;
-  numbers_are = numbers_kept (numbering g news) g news old new is.state is.openings keep is.numbers_are;
-  steered = is.steered;
-  marked = is.marked;
+  shaped = is.shaped;
 }
 
 pub stops_kept : (g : Setting) (aim : AimValue) (schedule : List ℕ)
@@ -83,6 +94,37 @@ stops_kept g aim schedule old new on keys keep visited = record {
         done = was.done;
       };
 }
+
+-- ---- a look-up
+
+-- the key is found
+pub key_found : (g : Setting) (aim : AimValue) (news : List Record) (old new : Visited)
+    (keys : List (List ℕ)) (key : List ℕ) (found : Bool)
+    → IsFoundOrAdded keys new.keys key found → found ≡ true → keys ≡ old.keys → new.is_on ≡ true
+    → IsPlaceKey g aim new.stops news key → (new.keys ≡ old.keys) × IsKnown g aim news new
+key_found g aim news old new keys key true same told was on is = (
+  same.0 ∙ was,
+  record {
+    on = on;
+    key = key;
+    at = same.1.0;
+    here = ap (λ (ks : List (List ℕ)). slice_get ks same.1.0) same.0 ∙ same.1.1;
+    key_is = is;
+  },
+)
+key_found g aim news old new keys key false same told was on is = absurd cc
+
+-- it is not, so it is added
+pub key_added : (g : Setting) (aim : AimValue) (news : List Record) (stops : StopsValue)
+    (was keys new : List (List ℕ)) (key : List ℕ) (found : Bool)
+    → IsFoundOrAdded keys new key found → found ≡ false → keys ≡ was
+    → IsPlaceKey g aim stops news key
+    → (new ≡ was) ⊎ ((k : List ℕ) × (new ≡ was ++ k ∷ []) × IsPlaceKey g aim stops news k)
+key_added g aim news stops was keys new key true same told is_old is = absurd cc
+key_added g aim news stops was keys new key false same told is_old is =
+    inr (key, same ∙ ap (λ (ks : List (List ℕ)). ks ++ key ∷ []) is_old, is)
+
+-- ---- a longer schedule
 
 -- the schedule gets longer
 pub visited_longer : (g : Setting) (aim : AimValue) (before : List ℕ) (cpu : ℕ)
@@ -196,14 +238,18 @@ visited_narrower g old new schedule v narrower visited = record {
         played = was.played;
         admitted = narrower.admits (schedule_of was.news) was.admitted;
         key_is = record {
-          state = was.key_is.state;
-          openings = was.key_is.openings;
-          steering = was.key_is.steering;
-          marks = was.key_is.marks;
+          numbers = was.key_is.numbers;
+          are = record {
+            openings = was.key_is.are.openings;
+            steering = was.key_is.are.steering;
+            marks = was.key_is.are.marks;
+            numbers_are = was.key_is.are.numbers_are;
+            numbered = was.key_is.are.numbered;
+            steered = was.key_is.are.steered;
+            marked = narrower.marks was.news was.key_is.are.marks was.key_is.are.marked;
+          };
           key_is = was.key_is.key_is;
-          numbers_are = was.key_is.numbers_are;
-          steered = was.key_is.steered;
-          marked = narrower.marks was.news was.key_is.marks was.key_is.marked;
+          shaped = was.key_is.shaped;
         };
         done = elim was.done [
           | inl done ↦ inl (done_narrower g old new (schedule_of was.news) narrower done)

@@ -25,8 +25,8 @@ pub record AimValue : Type 1 where
   pub found : List ℕ → Type 0
   -- the places that the search may come to
   pub admits : List ℕ → Type 0
-  -- the processors whose next call the search may try at a place that it admits. This does not depend on
-  -- the reply
+  -- the processors whose next call the search may try at an admitted place. This does not depend on the
+  -- reply
   pub tries : List ℕ → (cpu : ℕ) → Type 0
   -- numbers of the place after these records. With the rest of the place's key, they decide which
   -- continuations of the place are sought

@@ -62,9 +62,10 @@ IsNearCause g wanted below Stopped = Unit {0}
 
 -- the cause of a fault of the whole search. There are three causes of `HistoryFull`, one for each step
 -- of the search. Either the history has no room for a call that is reached with fewer than `few_changes`
--- changes. Or it has none for a call, and no schedule that ends as wanted comes before that call. Or it
--- has none for a call that is reached with fewer changes than the first schedule that ends as wanted. In
--- the last two cases, each schedule that ends as wanted has at least `few_changes` changes
+-- changes (FillsNear). Or it has none for a call, and no schedule that ends as wanted comes before that
+-- call. Or it has none for a call that is reached with fewer changes than the first schedule that ends as
+-- wanted (FillsNearer). In the last two cases, each schedule that ends as wanted has at least
+-- `few_changes` changes
 abbrev pub IsFindCause : Setting → List Wanted → FindFault → Type 0
 IsFindCause g wanted HistoryFull =
     FillsNear g wanted few_changes

@@ -1,5 +1,5 @@
 -- The operation that each processor began last. A search renumbers operations by these.
-use Rattle.std.specs.Prelude.{◌≡◌, ℕ, Bool, true, false, if◌then◌else◌, List, [], ◌∷◌, ◌++◌, fold, length, map, reverse}
+use Rattle.std.specs.Prelude.{◌≡◌, ℕ, ◌-◌, Bool, true, false, if◌then◌else◌, List, [], ◌∷◌, ◌++◌, drop, fold, length, map}
 use Rattle.std.specs.List.{range_with_len}
 use Rattle.hp_units.specs.Receipts.{receipts_of}
 use Rattle.hp_units.specs.declared.replies.Record.{Record}
@@ -51,13 +51,33 @@ ops_at g news = ops_after g (ended news).kept
 abbrev pub numbering : Setting → List Record → ℕ → ℕ
 numbering g news op = number_of (greatest_named g.scripts) (ops_at g news) op
 
--- the lists of operations at the places that the new records lead through, latest place first
-abbrev pub AreLatests : Setting → (news : List Record) → List (List ℕ) → Type 0
-AreLatests g news [] = ⊥
-AreLatests g news (ops ∷ earlier) =
-    (ops ≡ ops_at g news)
-    × ((before : List Record) (r : Record) → news ≡ before ++ r ∷ [] → AreLatests g before earlier)
+-- the last `count` numbers of a list, or all, if there are fewer
+abbrev pub last_of : (count : ℕ) → List ℕ → List ℕ
+last_of count numbers = drop (length numbers - count) numbers
 
--- `l` holds the operations at the place after the new records and at the places before it
+-- the operations at the current place
+abbrev pub latest_here : LatestOps → List ℕ
+latest_here l = last_of l.processors l.ops.items
+
+-- the records so far, the operations at all earlier places, and those at the current place
+pub record Along : Type 0 where
+  pub all : List Record
+  pub earlier : List ℕ
+  pub here : List ℕ
+
+-- the same after one more record
+abbrev pub along_with : Setting → Along → Record → Along
+along_with g a r = record {
+  all = a.all ++ r ∷ [];
+  earlier = a.earlier ++ a.here;
+  here = ops_at g (a.all ++ r ∷ []);
+}
+
+-- the operations at the places that the new records lead through, from the first place on
+abbrev pub along : Setting → (news : List Record) → Along
+along g news = fold (along_with g) (record { all = []; earlier = []; here = ops_at g [] }) news
+
+-- `l` holds the operations at all places up to the one after the new records
 abbrev pub AreLatestAt : Setting → (news : List Record) → LatestOps → Type 0
-AreLatestAt g news l = AreLatests g news (l.here.items ∷ reverse (map (λ ops. ops.items) l.before.items))
+AreLatestAt g news l =
+    (l.processors ≡ length g.scripts) × (l.ops.items ≡ (along g news).earlier ++ (along g news).here)

@@ -1,10 +1,16 @@
 -- The places that a search has visited, each by its key.
 use Rattle.std.specs.Prelude.{◌≡◌, ◌⊎◌, ℕ, Bool, true, false, List, [], ◌∷◌, ◌++◌, Some, length, slice_get}
+use Rattle.hp_units.specs.History.{value_of}
+use Rattle.hp_units.specs.Memory.{Memory}
+use Rattle.hp_units.specs.Placement.{IsShaped}
 use Rattle.hp_units.specs.declared.replies.Record.{Record}
+use Rattle.hp_renumbering.specs.Renumbered.{renumbered}
 use Rattle.hp_schedules.specs.Alike.{AreMergeable}
 use Rattle.hp_schedules.specs.Orders.{Extends}
 use Rattle.hp_schedules.specs.Schedules.{Setting, plays, schedule_of}
-use Rattle.hp_states.specs.Stops.{AreNumbersAt, AreStopsAt, StopsValue}
+use Rattle.hp_states.specs.Codes.{place_code}
+use Rattle.hp_states.specs.Numbered.{IsNumbered}
+use Rattle.hp_states.specs.Stops.{AreStopsAt, StopsValue}
 use Rattle.hp_explore.specs.Aims.{AimValue, AreSteered, IsDone}
 use Rattle.hp_schedules.specs.Scripts.{greatest_named}
 use Rattle.hp_explore.specs.LatestOps.{AreLatestAt, numbering}
@@ -12,19 +18,29 @@ use Rattle.hp_explore.specs.declared.visited.Visited.{Visited}
 
 -- ---- the places visited
 
--- the key of a place: the number of its state, the number of its list of operations that a Cancel
--- can undo, the numbers of the processors' positions, and the aim's marks. Operations have the
--- numbers that `numbering` gives them
-pub record IsPlaceKey (g : Setting) (aim : AimValue) (stops : StopsValue) (news : List Record)
-    (key : List ℕ) : Type 0 where
-  pub state : ℕ
+-- the state after the new records, in which operations have the numbers of `numbering`
+abbrev pub numbered_state : Setting → (news : List Record) → Memory
+numbered_state g news = renumbered (numbering g news) (value_of g.layout g.base (g.start ++ news))
+
+-- the numbers of a place: the number of its list of operations that a Cancel can undo, the numbers of
+-- the processors' positions, and the aim's marks. Operations have the numbers of `numbering`
+pub record ArePlaceNumbers (g : Setting) (aim : AimValue) (stops : StopsValue) (news : List Record)
+    (numbers : List ℕ) : Type 0 where
   pub openings : ℕ
   pub steering : List ℕ
   pub marks : List ℕ
-  pub key_is : key ≡ ((state ∷ openings ∷ []) ++ steering) ++ marks
-  pub numbers_are : AreNumbersAt (numbering g news) g news stops state openings
+  pub numbers_are : numbers ≡ (openings ∷ steering) ++ marks
+  pub numbered : IsNumbered (numbering g news) g stops.codes stops.lists news (Some openings)
   pub steered : AreSteered (numbering g news) g (length g.scripts) news steering
   pub marked : aim.marks news marks
+
+-- the key of a place: the code of its numbers and its state
+pub record IsPlaceKey (g : Setting) (aim : AimValue) (stops : StopsValue) (news : List Record)
+    (key : List ℕ) : Type 0 where
+  pub numbers : List ℕ
+  pub are : ArePlaceNumbers g aim stops news numbers
+  pub key_is : key ≡ place_code g.layout numbers (numbered_state g news)
+  pub shaped : IsShaped g.layout (numbered_state g news)
 
 -- the key belongs to an admitted place, which either is done or is on the schedule's path
 pub record IsVisited (g : Setting) (aim : AimValue) (schedule : List ℕ) (stops : StopsValue)

@@ -1,10 +1,10 @@
 //! The latest operation of each processor, by which a search numbers operations.
-ghost use Rattle.std.specs.Prelude.{◌≡◌, ◌++◌, ◌∷◌, [], IfOk, List, OnOk, length};
+ghost use Rattle.std.specs.Prelude.{◌≡◌, ◌≤◌, ◌++◌, ◌∷◌, [], IfOk, List, OnOk, length};
 ghost use Rattle.hp_units.specs.declared.replies.Record.{Record as NewRecord};
 ghost use Rattle.hp_schedules.specs.Cursors.{AreCursors};
 ghost use Rattle.hp_schedules.specs.Openings.{change_of};
 ghost use Rattle.hp_schedules.specs.Schedules.{Setting};
-ghost use Rattle.hp_explore.specs.LatestOps.{AreLatestAt, is_end, ops_after};
+ghost use Rattle.hp_explore.specs.LatestOps.{AreLatestAt, is_end, latest_here, ops_after};
 
 use hp_schedules::{Change, Positions, change_of};
 use hp_units::{Record, Serial};
@@ -19,14 +19,18 @@ use std::marker::Model;
 /// one. So operations have the same numbers in the current state and in all states that a Cancel
 /// can lead back to.
 pub(crate) struct LatestOps {
-    here: Vec<Serial>,
-    before: Vec<Vec<Serial>>,
+    processors: u32,
+    /// One operation per processor for each place on the path, from the first place on.
+    ops: Vec<Serial>,
 }
 
 /// Keeps callers from proving again how each field is dropped.
 impl Drop for LatestOps {
     fn drop(self) {
-        let LatestOps { here: _, before: _ } = self;
+        let LatestOps {
+            processors: _,
+            ops: _,
+        } = self;
     }
 }
 
@@ -41,24 +45,22 @@ impl LatestOps {
         ensures { IfOk result (λ ops. (g : Setting) → AreCursors g [] positions.now.cursors.items
             → AreLatestAt g [] ops) }
     {
-        let here = operations(alloc, positions, processors)?;
-        Ok(LatestOps {
-            here,
-            before: Vec::new(alloc),
-        })
+        let mut ops = Vec::new(alloc);
+        push_operations(&mut ops, positions, processors)?;
+        Ok(LatestOps { processors, ops })
     }
 
     /// Returns, from processor 0 on, the operations by which a search renumbers at this place.
     pub(crate) fn here(&self) -> &[Serial]
-        ensures { result.now ≡ self.now.here.items }
+        ensures { result.now ≡ latest_here self.now }
     {
-        self.here.as_slice()
+        let first = self.ops.len().saturating_sub(self.processors as usize);
+        &self.ops[first..]
     }
 
     /// Moves to the place after a call. `positions` are those of the processors there.
     pub(crate) fn go_on(
         &mut self,
-        alloc: Global,
         call: &Record,
         positions: &Positions,
         processors: u32,
@@ -68,14 +70,12 @@ impl LatestOps {
             → AreCursors g (news ++ call.now ∷ []) positions.now.cursors.items
             → AreLatestAt g news self.old → AreLatestAt g (news ++ call.now ∷ []) self.new) }
     {
-        let next = if leaves_nothing(call) {
-            operations(alloc, positions, processors)?
+        if leaves_nothing(call) {
+            push_operations(&mut self.ops, positions, processors)?;
         } else {
-            copy_of(alloc, self.here.as_slice())?
-        };
-        self.before.reserve(1)?;
-        let was = std::mem::replace(&mut self.here, next);
-        self.before.push_reserved(was);
+            let first = self.ops.len().saturating_sub(self.processors as usize);
+            self.ops.extend_from_within(first..)?;
+        }
         Ok(())
     }
 
@@ -84,9 +84,8 @@ impl LatestOps {
         ensures { (g : Setting) (news : List NewRecord) (r : NewRecord)
             → AreLatestAt g (news ++ r ∷ []) self.old → AreLatestAt g news self.new }
     {
-        if let Some(was) = self.before.pop() {
-            self.here = was;
-        }
+        let left = self.ops.len().saturating_sub(self.processors as usize);
+        self.ops.truncate(left);
     }
 }
 
@@ -98,28 +97,19 @@ fn leaves_nothing(call: &Record) -> bool
     matches!(change_of(call), Change::Ends)
 }
 
-/// Returns the operation that each processor began last, from processor 0 on.
-fn operations(
-    alloc: Global,
+/// Appends the operation that each processor began last, from processor 0 on.
+fn push_operations(
+    ops: &mut Vec<Serial>,
     positions: &Positions,
     processors: u32,
-) -> Result<Vec<Serial>, AllocError>
+) -> Result<(), AllocError>
     requires { processors ≡ length positions.now.cursors.items }
-    ensures { IfOk result (λ ops. (g : Setting) (news : List NewRecord)
-        → AreCursors g news positions.now.cursors.items → ops.items ≡ ops_after g news) }
+    ensures { OnOk result ((g : Setting) (news : List NewRecord)
+        → AreCursors g news positions.now.cursors.items
+        → ops.new.items ≡ ops.old.items ++ ops_after g news) }
 {
-    let mut ops = Vec::new(alloc);
     for cpu in 0..processors {
         ops.push(positions.operation(cpu))?;
     }
-    Ok(ops)
-}
-
-/// Returns a copy of these numbers.
-fn copy_of(alloc: Global, numbers: &[Serial]) -> Result<Vec<Serial>, AllocError>
-    ensures { IfOk result (λ copy. copy.items ≡ numbers.now) }
-{
-    let mut copy = Vec::new(alloc);
-    copy.extend_from_slice(numbers)?;
-    Ok(copy)
+    Ok(())
 }

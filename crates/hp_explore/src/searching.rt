@@ -175,7 +175,6 @@ impl<'a> Search<'a> {
         }
         self.schedule.push_reserved(Cpu(self.next));
         self.visited.go_on(
-            alloc,
             latest(self.path.records()),
             self.path.positions(),
             processors,

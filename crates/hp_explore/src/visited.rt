@@ -9,7 +9,7 @@ ghost use Rattle.hp_schedules.specs.Schedules.{Setting, schedule_of};
 ghost use Rattle.hp_states.specs.Stops.{AreSameStops, KeepStops};
 ghost use Rattle.hp_explore.specs.Settings.{setting};
 ghost use Rattle.hp_explore.specs.Aims.{AreSteered};
-ghost use Rattle.hp_explore.specs.Visited.{AreFollowed, IsLookedUp, IsPlaceKey};
+ghost use Rattle.hp_explore.specs.Visited.{AreFollowed, ArePlaceNumbers, IsLookedUp};
 
 use crate::aim::Aim;
 use crate::latest_ops::LatestOps;
@@ -17,7 +17,7 @@ use crate::path::Path;
 use crate::walk::keeps_places;
 use hp_machine::Machine;
 use hp_schedules::{CallScript, Positions, greatest_named, is_closed};
-use hp_states::{KeyTable, Stops};
+use hp_states::{PlaceTable, Stops};
 use hp_units::{Cpu, Record, Serial};
 use std::alloc::{AllocError, Global};
 
@@ -26,14 +26,14 @@ use std::alloc::{AllocError, Global};
 /// Two places with the same key continue alike: with the same calls, and the aim seeks the same
 /// continuations. So only one of them is tried. In keys, an operation in `latest` that is above
 /// `fixed` has a number that depends only on its processor, since it does not matter when it began.
-/// `key` is the key written last. If `is_on` is false, no place is ever kept.
+/// `numbers` has the numbers that were written last. If `is_on` is false, no place is ever kept.
 pub(crate) struct Visited {
     is_on: bool,
     fixed: Serial,
     latest: LatestOps,
     stops: Stops,
-    keys: KeyTable,
-    key: Vec<u32>,
+    keys: PlaceTable,
+    numbers: Vec<u32>,
 }
 
 /// Keeps callers from proving again how each field is dropped.
@@ -45,7 +45,7 @@ impl Drop for Visited {
             latest: _latest,
             stops: _stops,
             keys: _keys,
-            key: _,
+            numbers: _,
         } = self;
     }
 }
@@ -75,15 +75,14 @@ impl Visited {
             fixed,
             latest,
             stops,
-            keys: KeyTable::new(alloc),
-            key: Vec::new(alloc),
+            keys: PlaceTable::new(alloc),
+            numbers: Vec::new(alloc),
         })
     }
 
     /// Moves on to the place after the latest call. `positions` are those of the processors there.
     pub(crate) fn go_on(
         &mut self,
-        alloc: Global,
         latest: &Record,
         positions: &Positions,
         processors: u32,
@@ -101,7 +100,7 @@ impl Visited {
             return Ok(());
         }
         self.stops.go_on(latest, self.fixed, self.latest.here())?;
-        self.latest.go_on(alloc, latest, positions, processors)?;
+        self.latest.go_on(latest, positions, processors)?;
         Ok(())
     }
 
@@ -142,21 +141,28 @@ impl Visited {
         if !self.is_on {
             return Ok(false);
         }
-        self.stops
-            .number_state(alloc, path.memory(), self.fixed, self.latest.here())?;
-        if !self.write_key(path, schedule, processors, aim)? {
+        if !self.write_numbers(path, schedule, processors, aim)? {
             return Ok(false);
         }
-        let key = self.key.as_slice();
-        if self.keys.find(key).is_some() {
+        let numbers = self.numbers.as_slice();
+        let memory = path.memory();
+        if self
+            .keys
+            .find_or_add(numbers, memory, self.fixed, self.latest.here())?
+        {
             return Ok(true);
         }
-        let _place = self.keys.add(key)?;
+        // A Begin needs the number of the state before it. Without that number, later places would
+        // have no keys, and be walked again.
+        if path.positions().may_begin(path.scripts()) {
+            self.stops
+                .number_state(alloc, memory, self.fixed, self.latest.here())?;
+        }
         Ok(false)
     }
 
-    /// Writes the key of the place, and returns whether it has one.
-    fn write_key<A: Aim>(
+    /// Writes the numbers of the place, and returns whether it has them.
+    fn write_numbers<A: Aim>(
         &mut self,
         path: &Path<'_>,
         schedule: &[Cpu],
@@ -171,11 +177,11 @@ impl Visited {
         ensures same { (self.new.is_on ≡ self.old.is_on) × (self.new.stops ≡ self.old.stops)
             × (self.new.keys ≡ self.old.keys) }
         ensures way { AreFollowed path.now.setting path.now.news self.new }
-        ensures ok { IfOk result (λ has. has ≡ true → IsPlaceKey path.now.setting
-            (A.shows aim.now path.now.setting) self.new.stops path.now.news self.new.key.items) }
+        ensures ok { IfOk result (λ has. has ≡ true → ArePlaceNumbers path.now.setting
+            (A.shows aim.now path.now.setting) self.new.stops path.now.news self.new.numbers.items) }
     {
-        self.key.clear();
-        if !self.stops.push_numbers(&mut self.key)? {
+        self.numbers.clear();
+        if !self.stops.push_openings(&mut self.numbers)? {
             return Ok(false);
         }
         if !push_all_steering(
@@ -185,11 +191,11 @@ impl Visited {
             processors,
             self.fixed,
             self.latest.here(),
-            &mut self.key,
+            &mut self.numbers,
         )? {
             return Ok(false);
         }
-        if !aim.push_marks(path, schedule, processors, &mut self.key)? {
+        if !aim.push_marks(path, schedule, processors, &mut self.numbers)? {
             return Ok(false);
         }
         Ok(true)

@@ -181,6 +181,15 @@ impl Cursor {
         }
     }
 
+    /// Returns whether the script's next call may be a Begin. After a plan that is over it may be.
+    pub(crate) fn may_begin(&self, lines: &[Step]) -> bool {
+        match lines.get(self.line) {
+            Some(Step::Ask(event)) => matches!(event, Event::Begin { .. }),
+            Some(Step::Carry { .. }) => !self.driver.has_begun() || self.driver.is_over(),
+            Some(Step::Own(_)) | None => false,
+        }
+    }
+
     /// Returns how many lines are finished.
     pub(crate) fn finished(&self, lines: &[Step]) -> usize
         ensures { (cpus : ℕ) (receipts : List Receipt) → IsCursor cpus lines.now receipts self.now

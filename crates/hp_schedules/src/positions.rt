@@ -66,6 +66,19 @@ impl Positions {
         cursor.op
     }
 
+    /// Returns whether the next call of a processor may be a Begin. If not, it is none.
+    pub fn may_begin(&self, scripts: &[CallScript]) -> bool {
+        for index in 0..self.cursors.len() {
+            let Some(script) = scripts.get(index) else {
+                continue;
+            };
+            if self.cursors[index].may_begin(script.lines()) {
+                return true;
+            }
+        }
+        false
+    }
+
     /// Returns how many lines of its script the processor has finished.
     pub fn finished(&self, scripts: &[CallScript], cpu: u32) -> usize
         requires scripts { cpu < length scripts.now }

@@ -3,7 +3,9 @@ use Rattle.std.proofs.Common.{ℕ, ◌≡◌, List, sym, ◌∙◌}
 use Rattle.std.proofs.lemmas.Option.{same_Some}
 use Rattle.hp_units.specs.LayoutParts.{LayoutParts}
 use Rattle.hp_units.specs.Memory.{Memory}
-use Rattle.hp_states.specs.Codes.{IsCoded, KeepCodes, state_code}
+use Rattle.hp_units.specs.Placement.{IsShaped}
+use Rattle.hp_states.specs.Codes.{IsCoded, KeepCodes, place_code, state_code}
+use Rattle.hp_states.proofs.Apart.{counted-apart}
 use Rattle.hp_states.proofs.Parts.{states-apart}
 
 -- a number means its state as codes come
@@ -18,3 +20,10 @@ pub coded_states_are_same : (l : LayoutParts) (codes : List (List ℕ)) (n : ℕ
 coded_states_are_same l codes n a b left right =
     states-apart l a b left.shaped right.shaped
     (same_Some (state_code l a) (state_code l b) (sym left.code ∙ right.code))
+
+-- a place's code is that of one place
+pub places_apart : (l : LayoutParts) (ns ms : List ℕ) (a b : Memory) → IsShaped l a → IsShaped l b
+    → place_code l ns a ≡ place_code l ms b → (ns ≡ ms) × (a ≡ b)
+places_apart l ns ms a b left right same =
+    let parts = counted-apart ns ms (state_code l a) (state_code l b) same in
+    (parts.0, states-apart l a b left right parts.1)

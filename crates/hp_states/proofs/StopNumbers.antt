@@ -201,21 +201,29 @@ openings_same p q g s h k n first second =
     second.3
 
 -- with the numbers of their operations, their states are the same, and Cancels lead back to the same states
+pub openings_join : (p q : ℕ → ℕ) (g : Setting) (s : StopsValue) (h k : List Record) (openings : ℕ)
+    → renumbered p (value_of g.layout g.base (g.start ++ h))
+    ≡ renumbered q (value_of g.layout g.base (g.start ++ k))
+    → IsNumbered p g s.codes s.lists h (Some openings) → IsNumbered q g s.codes s.lists k (Some openings)
+    → AreJoinedBy p q g.layout g.base (net_of (g.start ++ h)) (net_of (g.start ++ k))
+unfolding value_of
+openings_join p q g s h k openings state first second = record {
+  first_openings = first.1;
+  second_openings = second.1;
+  first_open = first.4;
+  second_open = second.4;
+  openings = openings_same p q g s h k openings first second;
+  state = state;
+}
+
 pub numbers_join : (p q : ℕ → ℕ) (g : Setting) (s : StopsValue) (h k : List Record) (state openings : ℕ)
     → AreNumbersAt p g h s state openings → AreNumbersAt q g k s state openings
     → AreJoinedBy p q g.layout g.base (net_of (g.start ++ h)) (net_of (g.start ++ k))
-unfolding value_of
-numbers_join p q g s h k state openings first second = record {
-  first_openings = (first.1).1;
-  second_openings = (second.1).1;
-  first_open = (first.1).4;
-  second_open = (second.1).4;
-  openings = openings_same p q g s h k openings first.1 second.1;
-  state =
-      coded_states_are_same g.layout s.codes state
-      (renumbered p (value_of g.layout g.base (g.start ++ h)))
-      (renumbered q (value_of g.layout g.base (g.start ++ k))) first.0 second.0;
-}
+numbers_join p q g s h k state openings first second =
+    openings_join p q g s h k openings
+    (coded_states_are_same g.layout s.codes state
+    (renumbered p (value_of g.layout g.base (g.start ++ h)))
+    (renumbered q (value_of g.layout g.base (g.start ++ k))) first.0 second.0) first.1 second.1
 
 -- by the same numbers for both, they are the same
 openings_equal : (p : ℕ → ℕ) → IsOneToOne p → (os us : List Opening)

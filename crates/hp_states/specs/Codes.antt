@@ -1,5 +1,5 @@
 -- States as byte strings, and the numbers under which a table stores them.
-use Rattle.std.specs.Prelude.{ℕ, ◌≡◌, List, [], ◌∷◌, ◌++◌, Some, slice_get}
+use Rattle.std.specs.Prelude.{ℕ, ◌≡◌, Bool, true, false, List, [], ◌∷◌, ◌++◌, Some, slice_get}
 use Rattle.std.specs.List.{flat_map}
 use Rattle.hp_units.specs.LayoutParts.{LayoutParts}
 use Rattle.hp_units.specs.Memory.{Memory}
@@ -14,6 +14,15 @@ state_code l m =
     ++ flat_map counted_code m.free.cached ++ flat_map (flat_map option_code) m.pages.table
     ++ flat_map (flat_map words_code) m.pages.contents ++ flat_map option_code m.kernel
     ++ flat_map row_code m.blocks.rows ++ auto_number m.blocks.auto ∷ []
+
+-- the code of a place of a search: some numbers, with their count, and then the state
+abbrev pub place_code : LayoutParts → (numbers : List ℕ) → Memory → List ℕ
+place_code l numbers m = counted_code numbers ++ state_code l m
+
+-- if the text is found, the table has it and stays as it is; if not, the table gets it
+abbrev pub IsFoundOrAdded : (old new : List (List ℕ)) → (text : List ℕ) → (found : Bool) → Type 0
+IsFoundOrAdded old new text true = (new ≡ old) × ((at : ℕ) × (slice_get old at ≡ Some text))
+IsFoundOrAdded old new text false = new ≡ old ++ text ∷ []
 
 -- each number in use keeps its code
 abbrev pub KeepCodes : (old new : List (List ℕ)) → Type 0

@@ -87,8 +87,8 @@ IsEnteredWithin g news old new entry =
 
 -- ---- a walk that reaches a place or leaves it
 
--- a schedule leads to this place with this memory and these positions. The stored places are right, and
--- the memo has the numbers of this place
+-- a schedule leads to this place with this memory and these positions. The stored places are right. If
+-- the memo's `is_on` is true, it has the numbers of this place
 pub record IsStood (g : Setting) (news : List Record) (memory : MemoryValue) (cursors : List Cursor)
     (ends : List Ending) (memo : MemoValue) : Type 0 where
   pub place : IsPlace g news memory cursors

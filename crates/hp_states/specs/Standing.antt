@@ -19,7 +19,8 @@ pub record StandingValue : Type 0 where
 abbrev pub plainly : List Record → ℕ → ℕ
 plainly news op = number_of 0 [] op
 
--- `s` has the numbers of the place after the new records, and of the places before it
+-- `s` has the numbers of the place after the new records and of the places before it, as far as they are
+-- known, and the number of each processor's transcript
 pub record IsStanding (g : Setting) (news : List Record) (s : StandingValue) : Type 0 where
   pub stops : AreStopsAt plainly g news s.stops
   pub exchanged : AreExchanged g news s.exchanged

@@ -157,6 +157,25 @@ impl Stops {
         self.codes.size()
     }
 
+    /// Appends the number of the list of cancellable operations. Returns whether it is known and fits
+    /// 32 bits; if not, appends nothing.
+    pub fn push_openings(&self, numbers: &mut Vec<u32>) -> Result<bool, AllocError>
+        ensures { IfOk result (λ has. has ≡ true → (openings : ℕ)
+            × (numbers.new.items ≡ numbers.old.items ++ openings ∷ [])
+            × ((at : List NewRecord → ℕ → ℕ) (g : Setting) (news : List NewRecord)
+            → AreStopsAt at g news self.now
+            → IsNumbered (at news) g self.now.codes self.now.lists news (Some openings))) }
+    {
+        let Some(openings) = self.here.openings else {
+            return Ok(false);
+        };
+        let Ok(openings) = u32::try_from(openings) else {
+            return Ok(false);
+        };
+        numbers.push(openings)?;
+        Ok(true)
+    }
+
     /// Appends the number of the state and that of the list of cancellable operations, and returns
     /// whether both are known and fit 32 bits. If not, what is appended is unspecified.
     pub fn push_numbers(&self, numbers: &mut Vec<u32>) -> Result<bool, AllocError>

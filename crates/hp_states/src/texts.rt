@@ -1,6 +1,6 @@
 //! Interned byte strings.
-ghost use Rattle.std.specs.Prelude.{◌≡◌, ◌<◌, [], IfOk, IfSome, Some, length, slice_get};
-ghost use Rattle.hp_states.specs.Codes.{KeepCodes};
+ghost use Rattle.std.specs.Prelude.{◌≡◌, ◌<◌, ◌++◌, ◌∷◌, [], IfOk, IfSome, OnOk, Some, length, slice_get};
+ghost use Rattle.hp_states.specs.Codes.{IsFoundOrAdded, KeepCodes};
 ghost use Rattle.hp_states.specs.Texts.{AreTextsFrom, start_of, texts_from};
 
 use crate::digests::digest_of;
@@ -70,6 +70,18 @@ impl Texts {
         }
     }
 
+    /// Returns whether `text` is found, and adds it if not.
+    pub(crate) fn find_or_add(&mut self, text: &[u8]) -> Result<bool, AllocError>
+        ensures { IfOk result (IsFoundOrAdded self.old self.new text.now) }
+    {
+        let digest = digest_of(text);
+        if self.found(digest, text).is_some() {
+            return Ok(true);
+        }
+        let _number = self.add(digest, text)?;
+        Ok(false)
+    }
+
     /// Returns about how many bytes the strings take.
     pub(crate) fn size(&self) -> u64 {
         (self.bytes.len() as u64).saturating_add(
@@ -116,6 +128,7 @@ impl Texts {
     fn add(&mut self, digest: u64, text: &[u8]) -> Result<usize, AllocError>
         ensures kept { KeepCodes self.old self.new }
         ensures ok { IfOk result (λ n. slice_get self.new n ≡ Some text.now) }
+        ensures added { OnOk result (self.new ≡ self.old ++ text.now ∷ []) }
     {
         self.ends.reserve(1)?;
         let number = self.ends.len();

@@ -1,13 +1,15 @@
 -- The place before it on the way is known again.
-use Rattle.std.proofs.Common.{ap, map, sym, ◌∙◌}
-use Rattle.std.proofs.lemmas.List.{nil_from_length}
-use Rattle.hp_explore.proofs.LatestPaths.{latest_first}
+use Rattle.std.proofs.Common.{◌-◌, ℕ, List, ap, take, ◌∙◌}
+use Rattle.hp_explore.proofs.LatestPaths.{latest_less}
 use Rattle.hp_explore.proofs.latest_ops.LatestOps.go_back.Goals as goal
 
-pub returns-in_default : goal.returns-in_default
-returns-in_default c =
-    λ g news r are.
-    absurd (latest_first g news r c.args.self.now.here.items
-    (map (λ ops. ops.items) c.args.self.now.before.items)
-    (ap (map (λ ops. ops.items)) (nil_from_length c.args.self.now.before.items
-    (sym c.args.self.now.before.ok.0 ∙ c.in_default.ensures.cases.0))) are)
+pub returns : goal.returns
+returns c =
+    λ g news r are. (
+      are.0,
+      c.truncate.ensures.items
+          ∙ (ap (λ (n : ℕ). take n c.args.self.now.ops.items)
+          (c.saturating_sub-left.ensures ∙ ap (λ (n : ℕ). n - c.args.self.now.processors)
+          (c.len.ensures ∙ c.args.self.now.ops.ok.0))
+          ∙ latest_less g news r c.args.self.now are),
+    )

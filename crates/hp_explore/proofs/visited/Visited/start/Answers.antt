@@ -4,10 +4,10 @@ use Rattle.hp_schedules.specs.Alike.{is_closed}
 use Rattle.hp_schedules.specs.Cursors.{AreCursors}
 use Rattle.hp_states.specs.Stops.{AreStopsAt}
 use Rattle.hp_states.proofs.StopNumbers.{begun_at}
-use Rattle.hp_explore.specs.LatestOps.{numbering}
+use Rattle.hp_explore.specs.LatestOps.{latest_here, numbering}
 use Rattle.hp_explore.specs.Paths.{PathValue, state_at}
 use Rattle.hp_explore.specs.Settings.{setting}
-use Rattle.hp_explore.proofs.LatestPaths.{numbers_here}
+use Rattle.hp_explore.proofs.LatestPaths.{here_at, numbers_here}
 use Rattle.hp_explore.proofs.visited.Visited.start.Goals as goal
 
 pub start-requires : goal.start-requires
@@ -27,8 +27,9 @@ returns-clause-way c =
     c.requires.begun c.positions.ensures) in
     λ set. (
       c.in_ok-number_state.ensures.here (numbering g) g []
-          (sym (numbers_here g [] c.greatest_named-fixed.result c.in_ok-latest.latest.here.items
-          c.here.result.now c.greatest_named-fixed.ensures c.here.ensures latest.0))
+          (sym (numbers_here g [] c.greatest_named-fixed.result (latest_here c.in_ok-latest.latest)
+          c.here.result.now c.greatest_named-fixed.ensures c.here.ensures
+          (here_at g [] c.in_ok-latest.latest latest)))
           (c.memory.ensures
           ∙ ap (λ (p : PathValue). record { layout = p.setting.layout; state = state_at p }) c.requires.begun)
           (subst (AreStopsAt (numbering g) g []) (sym c.start-stops.ensures)

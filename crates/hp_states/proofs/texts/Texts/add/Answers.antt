@@ -45,3 +45,13 @@ returns-clause-ok c =
       ap (λ (ends : List ℕ). length ends) c.reserve.ensures.items,
       count c.self.inside.bytes.items 0 c.self.inside.ends.items,
     ))
+
+pub returns-clause-added : goal.returns-clause-added
+returns-clause-added c =
+    texts_are c.self.inside.bytes.items c.args.text.now c.extend_from_slice.new.self.items
+    c.self.inside.ends.items c.push_reserved.new.self.items c.len.result c.self.invariant
+    c.in_ok-extend_from_slice.ensures.items
+    (c.push_reserved.ensures.items
+    ∙ ap (λ (ends : List ℕ). ends ++ c.len.result ∷ []) c.reserve.ensures.items)
+    (omega (arith, c.len.ensures))
+    ∙ ap (λ (texts : List (List ℕ)). texts ++ c.args.text.now ∷ []) c.self.view_is
