@@ -13,8 +13,9 @@ What is tried:
 - 300 random logs of a small machine, lawful ones and changed ones: the faults, each with its law, its
   place and the earlier event, and what is counted of each memory block, are those of a slow judge that
   looks for contradictions by the sentences of the laws (crates/hp_judge/specs/Laws.antt); also with
-  `--blocks`, `--allow` and `--most`; and the picture of each has these blocks, their frames in use,
-  and where they are going online or offline and where that ended;
+  `--blocks`, `--allow` and `--most`; each is lawful exactly if all its parts are; and the picture of
+  each has these blocks, their frames in use, and where they are going online or offline and where
+  that ended;
 - a picture of a longer log, and of the log of Linux;
 - logs that say on their first line how many frames a memory block has;
 - the logs of 2,000 random scenarios of our own machine, with events of all kinds, undos, cancels and
@@ -622,6 +623,11 @@ def check_random(checks, judge):
         part = [part_of(event, first, end) for event in log]
         status, report, _said = judge.report(text, *options, "--most", "1000", "--blocks", f"{first}..{end}")
         checks.holds(where, told_faults(report) == faults_by_laws(part), f"blocks {first}..{end}\n{text}")
+        # The parts together have every block that the log names.
+        parts = [(0, first), (end, BLOCKS)]
+        rest = [judge.call(text, *options, "--blocks", f"{low}..{high}")[0] for low, high in parts if low < high]
+        is_lawful = all(one == 0 for one in [status, *rest])
+        checks.holds(where, is_lawful == (not wanted), f"parts by {first}..{end}: {status} {rest}\n{text}")
     checks.holds("random", LOGS // 3 < unlawful < LOGS, str(unlawful))
 
 
@@ -753,14 +759,19 @@ def check_odd(checks, judge):
     json_options = ["--block-frames", "8"]
     ftrace_options = ["--block-frames", "8", "--ftrace"]
     alloc = '{"alloc": 0}'
+    far = '{"move": 0, "to": 67108864}'
     for name, log, last in [
             ("empty", "", "lawful: 0 faults, 0 allowed"),
             ("blank", "\n\n", "lawful: 0 faults, 0 allowed"),
             ("no newline", alloc, "lawful: 0 faults, 0 allowed"),
             ("carriage returns", f"{alloc}\r\n{alloc}\r\n", "unlawful: 1 faults, 0 allowed"),
+            ("the longest line", alloc + " " * (65536 - len(alloc)) + "\n{}", "lawful: 0 faults, 0 allowed"),
+            ("and a carriage return", " " * 65536 + "\r\n{}", "lawful: 0 faults, 0 allowed"),
+            ("the deepest note", '{"note": ' + "[" * 128 + "]" * 128 + "}", "lawful: 0 faults, 0 allowed"),
             ("order 40", '{"alloc": 0, "order": 40}', "unlawful: 1 faults, 0 allowed"),
             ("order 4294967295", '{"free": 0, "order": 4294967295}', "unlawful: 1 faults, 0 allowed"),
             ("past the last frame", '{"alloc": 67108864}', "unlawful: 1 faults, 0 allowed"),
+            ("a move past the last frame", far, "unlawful: 1 faults, 0 allowed"),
             ("past the last block", '{"online": 8388608}', "unlawful: 1 faults, 0 allowed")]:
         status, out, said = judge.call(log, *json_options)
         wanted = 0 if last.startswith("lawful") else 3
@@ -774,15 +785,26 @@ def check_odd(checks, judge):
             ("not UTF-8", b'\n\n{"alloc": "\xff"}', 3, "no object of JSON"),
             ("an unknown key", '{"allok": 1}', 1, "unknown key"),
             ("a key twice", '{"alloc": 1, "alloc": 1}', 1, "a key comes twice"),
+            ("a note twice", '{"note": 1, "alloc": 1, "note": 1}', 1, "a key comes twice"),
+            ("a deeper note", '{"note": ' + "[" * 129 + "]" * 129 + "}", 1, "no object of JSON"),
             ("a negative number", '{"alloc": -1}', 1, "wrong value of a key"),
             ("a fraction", '{"alloc": 1.5}', 1, "wrong value of a key"),
             ("a large number", '{"alloc": 4294967296}', 1, "wrong value of a key"),
             ("two events", '{"alloc": 1, "free": 1}', 1, "keys of no event"),
             ("a move to nowhere", '{"move": 1}', 1, "keys of no event"),
-            ("a long line", alloc + "\n" + " " * 65537, 2, "longer than 65536 bytes")]:
+            ("a long line", alloc + "\n" + " " * 65537, 2, "longer than 65536 bytes"),
+            ("a long line and more", f"{alloc}\n{' ' * 65537}\n{alloc}", 2, "longer than 65536 bytes"),
+            ("100000 bytes", f"{alloc}\n{' ' * 100000}\r\n{alloc}", 2, "longer than 65536 bytes")]:
         status, out, said = judge.call(log, *json_options)
         is_right = status == 1 and out == "" and said == f"hotplug_lab: line {number}: {text}\n"
         checks.holds(name, is_right, f"{status} {out} {said}")
+    for name, log, text in [
+            ("a malformed event", far, "malformed: no aligned piece of one memory block, a block or a frame "
+             "outside the machine, or a move to the same frame"),
+            ("an unmovable alloc", '{"online": 0, "zone": "movable"}\n{"alloc": 1}', "movable: frame 1 (0x1, of "
+             "block 0) is handed out as unmovable, and has been in zone Movable since line 1, event 0")]:
+        status, out, said = judge.call(log, *json_options)
+        checks.holds(name, status == 3 and f": {text}\n" in out and said == "", f"{status} {out} {said}")
     event = "  a-1 [000] d..1. 1.000000: mm_page_free: page=0 pfn={} order={}"
     hostile = "  \x1b[31m\u202e-1 [000] d..1. 1.000000: mm_page_free: page=0 pfn=0x1 order=0"
     status, out, said = judge.call(f"{hostile}\n{hostile}\n", *ftrace_options)
@@ -813,6 +835,10 @@ def check_odd(checks, judge):
     status, out, _said = judge.call(twice, *json_options, "--blocks", "1..536870911")
     is_right = status == 0 and out.splitlines()[-1] == "lawful: 0 faults, 0 allowed"
     checks.holds("past 2^26 frames", is_right, f"{status} {out}")
+    # The part does not know whether the machine has that frame.
+    status, out, _said = judge.call(far, *json_options, "--blocks", "0..1")
+    is_right = status == 0 and out.startswith("1 lines: 0 allocs, 1 frees, 0 moves")
+    checks.holds("a move past 2^26 frames", is_right, f"{status} {out}")
 
 
 def main():

@@ -4,10 +4,14 @@ use crate::faults::LineFault;
 use hp_judge::LogEvent;
 use hp_numbers::{Block, Frame, Order};
 use hp_units::Zone;
-use json::{Reader, Scratch, Token};
+use json::{MAX_DEPTH, Reader, Scratch, Token};
 
 /// An object in which no key comes twice has at most this many keys.
 const MOST_KEYS: usize = 12;
+
+/// How deep the lists and objects of a note may nest. This is a constant, so that no log decides
+/// how deep the reader recurses: as deep as json reads any text.
+const NOTE_DEPTH: usize = MAX_DEPTH;
 
 /// Reads a line as an event. These are `LogEvent::Other`: an empty line, an object with no key but
 /// `note`, and a first line with the number of frames per memory block.
@@ -54,9 +58,14 @@ fn object_keys(reader: &mut Reader<'_>) -> Result<Keys, LineFault> {
 /// Reads all keys of an object and their values.
 fn read_keys(reader: &mut Reader<'_>) -> Result<Keys, LineFault> {
     let mut keys = Keys::none();
+    let mut has_note = false;
     for _key in 0..=MOST_KEYS {
         match reader.next_key() {
-            Ok(Some("note")) => skip_value(reader)?,
+            Ok(Some("note")) if has_note => return Err(LineFault::RepeatedKey),
+            Ok(Some("note")) => {
+                skip_note(reader)?;
+                has_note = true;
+            }
             Ok(Some(key)) => keys.set(key, reader.next())?,
             Ok(None) => return Ok(keys),
             Err(_) => return Err(LineFault::NotAnObject),
@@ -65,9 +74,9 @@ fn read_keys(reader: &mut Reader<'_>) -> Result<Keys, LineFault> {
     Err(LineFault::RepeatedKey)
 }
 
-/// Skips a value of any type.
-fn skip_value(reader: &mut Reader<'_>) -> Result<(), LineFault> {
-    match reader.skip_value(MOST_KEYS) {
+/// Skips the value of a note, of any type.
+fn skip_note(reader: &mut Reader<'_>) -> Result<(), LineFault> {
+    match reader.skip_value(NOTE_DEPTH) {
         Ok(()) => Ok(()),
         Err(_) => Err(LineFault::NotAnObject),
     }

@@ -26,6 +26,11 @@ impl BlockRange {
     ///
     /// An event of other blocks becomes `LogEvent::Other`, so that events keep their numbers. A
     /// move out of the range is a free, and one into it an alloc of a movable page.
+    ///
+    /// This also holds for frames and blocks outside the machine: such an event is malformed in the
+    /// whole log, but not in this part. The part cannot refuse it, since `size` may end before a
+    /// block that another part has. So a log is judged by its parts only if they have every block
+    /// that it names.
     pub fn part_of(&self, size: &MachineSize, event: &LogEvent) -> LogEvent
         requires { size.now.block_order < 32 }
         ensures { is_well_formed size.now event.now ≡ true → IsPartOf size.now self.now event.now result }

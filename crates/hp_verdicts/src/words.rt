@@ -41,7 +41,7 @@ pub(crate) fn broken(law: Law) -> &'static str {
         Law::InUse => "comes back, and has been free since",
         Law::Present => "is handed out from a block that has been offline since",
         Law::Empty => "is left behind in a block that goes offline, in use since",
-        Law::Movable => "is handed out to an owner who keeps it in place, in zone Movable since",
+        Law::Movable => "is handed out as unmovable, and has been in zone Movable since",
         Law::GoingOnline => "has another event before the end of the online that began at",
         Law::GoingOffline => "has another event before the end of the offline that began at",
         Law::Online => "can only start to go offline, since it has been online since",
@@ -50,5 +50,5 @@ pub(crate) fn broken(law: Law) -> &'static str {
 }
 
 /// The text of a malformed event.
-pub(crate) const MALFORMED: &str =
-    "no aligned piece of one memory block, no block of the machine, or a move to the same frame";
+pub(crate) const MALFORMED: &str = "no aligned piece of one memory block, a block or a frame \
+     outside the machine, or a move to the same frame";

@@ -4,7 +4,8 @@ use hp_judge::LogEvent;
 use hp_logs::{LineFault, ftrace_event, json_block_frames, json_event};
 use hp_units::Zone;
 use json::Scratch;
-use std::alloc::Global;
+use std::alloc::{AllocError, Global};
+use std::test::Fail;
 
 /// Returns an event as numbers: its kind, then its fields.
 fn numbers_of(event: &LogEvent) -> [u32; 4] {
@@ -119,6 +120,11 @@ fn json_lines_have_their_faults(rt: HostRuntime) {
         ("{\"alloc\": 1", LineFault::NotAnObject),
         ("{\"allok\": 1}", LineFault::UnknownKey),
         ("{\"free\": 1, \"free\": 1}", LineFault::RepeatedKey),
+        ("{\"note\": 1, \"note\": 1}", LineFault::RepeatedKey),
+        (
+            "{\"note\": [], \"free\": 1, \"note\": {}}",
+            LineFault::RepeatedKey,
+        ),
         ("{\"alloc\": 4294967296}", LineFault::WrongValue),
         (
             "{\"online\": 1, \"end\": \"perhaps\"}",
@@ -128,6 +134,37 @@ fn json_lines_have_their_faults(rt: HostRuntime) {
         ("{\"block_frames\": 8, \"free\": 1}", LineFault::NotAnEvent),
     ];
     assert!(rt; json_fails(rt.alloc(), &rows));
+}
+
+/// Returns a line with a note of lists that nest `depth` deep.
+fn nested_note(alloc: Global, depth: usize) -> Result<String, AllocError> {
+    let mut line = String::new(alloc);
+    line.push_str("{\"note\": ")?;
+    for _level in 0..depth {
+        line.push('[')?;
+    }
+    for _level in 0..depth {
+        line.push(']')?;
+    }
+    line.push('}')?;
+    Ok(line)
+}
+
+/// Returns the event of a line with a note that nests `depth` deep, or the line's fault.
+fn nested_numbers(alloc: Global, depth: usize) -> Result<Result<[u32; 4], LineFault>, AllocError> {
+    let line = nested_note(alloc, depth)?;
+    Ok(json_numbers(alloc, line.as_str()))
+}
+
+#[test]
+fn a_note_may_nest_128_deep(rt: HostRuntime) -> Result<(), Fail> {
+    let other = Ok([8, 0, 0, 0]);
+    let refused = Err(LineFault::NotAnObject);
+    assert!(rt; nested_numbers(rt.alloc(), 13)? == other);
+    assert!(rt; nested_numbers(rt.alloc(), 128)? == other);
+    assert!(rt; nested_numbers(rt.alloc(), 129)? == refused);
+    assert!(rt; nested_numbers(rt.alloc(), 32_000)? == refused);
+    Ok(())
 }
 
 /// Lines as Linux 6.1 or `trace-cmd report` writes them, each with its event as `numbers_of`

@@ -5,17 +5,22 @@ use hp_streams::{Failed, Sink, Source};
 use hp_verdicts::JudgeFault;
 use std::alloc::Global;
 
-/// Gives the bytes of a log in pieces of seven, so that lines are cut.
+/// Gives the bytes of a log in pieces, so that lines are cut.
 #[derive(Drop)]
 pub struct LogBytes<'a> {
     bytes: &'a [u8],
+    piece: usize,
 }
 
 impl<'a> LogBytes<'a> {
+    /// Gives seven bytes per read.
     pub fn new(text: &'a str) -> LogBytes<'a> {
-        LogBytes {
-            bytes: text.as_bytes(),
-        }
+        LogBytes::in_pieces(text.as_bytes(), 7)
+    }
+
+    /// Gives `piece` bytes per read, and one if that is 0; fewer at the end.
+    pub fn in_pieces(bytes: &'a [u8], piece: usize) -> LogBytes<'a> {
+        LogBytes { bytes, piece }
     }
 }
 
@@ -25,7 +30,7 @@ impl Source for LogBytes<'_> {
     ghost failures = { λ _. 0 };
 
     fn read(&mut self, buffer: &mut [u8]) -> Result<usize, Failed> {
-        let count = 7usize.min(buffer.len()).min(self.bytes.len());
+        let count = self.piece.max(1).min(buffer.len()).min(self.bytes.len());
         let (front, rest) = self.bytes.split_at(count);
         buffer[..count].copy_from_slice(front);
         self.bytes = rest;

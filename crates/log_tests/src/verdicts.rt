@@ -18,6 +18,9 @@ const LAWFUL: &str = "{\"block_frames\": 8}\n{\"online\": 1}\n{\"free\": 8, \"or
 const UNLAWFUL: &str = "{\"alloc\": 1}\n{\"alloc\": 1}\n{\"free\": 9}\n{\"free\": 9}\n\
      {\"alloc\": 1}\n";
 
+/// A page moves out of the first 2^26 frames.
+const FAR_MOVE: &str = "{\"move\": 0, \"to\": 67108864}\n";
+
 /// The options of a judgement in a test.
 #[derive(Clone, Copy, Drop)]
 struct Case {
@@ -162,4 +165,38 @@ fn the_first_line_says_how_many_frames_a_block_has(rt: HostRuntime) {
     assert!(rt; fails_for_size(rt.alloc(), case, "{\"block_frames\": 7}", SizeFault::Wrong));
     case.block_frames = Some(16);
     assert!(rt; fails_for_size(rt.alloc(), case, LAWFUL, SizeFault::Different));
+}
+
+#[test]
+fn a_malformed_event_says_what_it_may_be(rt: HostRuntime) {
+    // A machine has 2^26 frames, unless a range has blocks past these.
+    let end = "line 1, event 0: malformed: no aligned piece of one memory block, a block or a \
+         frame outside the machine, or a move to the same frame\n    \
+         \"{\\\"move\\\": 0, \\\"to\\\": 67108864}\"\nunlawful: 1 faults, 0 allowed\n";
+    assert!(rt; ends_with(rt.alloc(), plain(), FAR_MOVE, false, end));
+}
+
+#[test]
+fn an_unmovable_alloc_in_zone_movable_is_a_fault(rt: HostRuntime) {
+    let log = "{\"online\": 1, \"zone\": \"movable\"}\n{\"alloc\": 9}\n";
+    let text = "line 2, event 1: movable: frame 9 (0x9, of block 1) is handed out as unmovable, \
+         and has been in zone Movable since line 1, event 0\n";
+    let mut report = Report::new(rt.alloc());
+    assert_eq!(rt;
+        answer_of(judged(rt.alloc(), plain(), log, &mut report)),
+        Some(false)
+    );
+    assert!(rt; report.has(text));
+}
+
+#[test]
+fn a_move_out_of_the_range_is_a_free_wherever_it_goes(rt: HostRuntime) {
+    let mut case = plain();
+    case.range = Some(BlockRange { first: 0, end: 1 });
+    let mut report = Report::new(rt.alloc());
+    assert_eq!(rt;
+        answer_of(judged(rt.alloc(), case, FAR_MOVE, &mut report)),
+        Some(true)
+    );
+    assert!(rt; report.has("1 lines: 0 allocs, 1 frees, 0 moves"));
 }
