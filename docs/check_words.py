@@ -620,14 +620,26 @@ def check_counts(checks, lab):
                      f"says {out!r}")
 
 
+def scenario_file():
+    """A file with a scenario."""
+    file = tempfile.NamedTemporaryFile("w", suffix=".json")
+    json.dump(scenario_of(CALLS), file)
+    file.flush()
+    return file
+
+
 def check_gone(checks, lab):
     """Where nobody reads what is written the status is 1, and nothing is said."""
     text = json.dumps(scenario_of(CALLS)).encode()
-    with answers_file(lab) as answers:
-        for words in (("explore",), ("check",), ("trace",), ("explain", "-", answers.name)):
+    line, log = b"0 drain 0\n", b'{"block_frames": 4}\n'
+    with answers_file(lab) as answers, scenario_file() as file:
+        for words, sent in ((("explore",), text), (("check",), text), (("trace",), text),
+                            (("explain", "-", answers.name), text), (("live", file.name), line),
+                            (("live", "--json", file.name), line), (("judge",), log),
+                            (("judge", "--svg"), log)):
             reader, writer = os.pipe()
             os.close(reader)
-            ran = subprocess.run([lab.path, *words], input=text, stdout=writer,
+            ran = subprocess.run([lab.path, *words], input=sent, stdout=writer,
                                  stderr=subprocess.PIPE, timeout=SECONDS)
             os.close(writer)
             checks.same(f"hotplug_lab {words} without a reader", (1, b""),
@@ -648,9 +660,12 @@ def check_long_parts(checks, lab):
 def check_full(checks, lab):
     """Where the disk is full the status is 1, for the help too."""
     text = json.dumps(scenario_of(CALLS)).encode()
-    with answers_file(lab) as answers, open("/dev/full", "w") as full:
-        for words in (("--help",), ("--version",), ("check",), ("explain", "-", answers.name)):
-            ran = subprocess.run([lab.path, *words], input=text, stdout=full,
+    line, log = b"0 drain 0\n", b'{"block_frames": 4}\n'
+    with answers_file(lab) as answers, scenario_file() as file, open("/dev/full", "w") as full:
+        for words, sent in ((("--help",), text), (("--version",), text), (("check",), text),
+                            (("explain", "-", answers.name), text), (("live", file.name), line),
+                            (("live", "--json", file.name), line), (("judge",), log)):
+            ran = subprocess.run([lab.path, *words], input=sent, stdout=full,
                                  stderr=subprocess.PIPE, timeout=SECONDS)
             checks.same(f"hotplug_lab {words} on a full disk", (1, "hotplug_lab: writing failed\n"),
                         (ran.returncode, ran.stderr.decode()))

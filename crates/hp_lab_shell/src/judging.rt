@@ -2,6 +2,7 @@
 
 use crate::arguments::{ALLOW, BLOCK_FRAMES, BLOCKS, FILE, FTRACE, JSON, MOST, SVG};
 use crate::messages::file_name;
+use crate::output::Output;
 use clap::ArgMatches;
 use hp_log_pictures::draw_log;
 use hp_logs::{LineFault, LogFault, LogForm};
@@ -115,28 +116,30 @@ fn named_file<'a>(words: &ArgMatches<'a>) -> &'a str {
     }
 }
 
-/// Judges the log in an input, and writes the report or the picture to standard output. Returns
-/// whether the log is lawful.
+/// Judges the log in an input, and writes the report or the picture to standard output. Returns the
+/// exit status: 0 for a lawful log, 3 for one with faults, 1 if the reader of standard output has
+/// gone.
 fn judge_input<R: Read + Drop>(
     rt: &HostRuntime,
     words: &ArgMatches<'_>,
     options: &JudgeOptions,
     input: R,
-) -> Result<bool, JudgeFault> {
+) -> Result<u8, JudgeFault> {
     let mut source = Counted::new(input);
-    let mut sink = Counted::new(rt.stdout());
+    let mut sink = Output::new(rt.stdout());
     let form = log_form(words);
-    if words.get_flag(SVG) {
-        return draw_log(rt.alloc(), form, options, &mut source, &mut sink);
+    let judged = if words.get_flag(SVG) {
+        draw_log(rt.alloc(), form, options, &mut source, &mut sink)
+    } else {
+        let report = report_form(words);
+        judge_log(rt.alloc(), form, options, report, &mut source, &mut sink)
+    };
+    match judged {
+        Ok(true) => Ok(0),
+        Ok(false) => Ok(3),
+        Err(JudgeFault::WriteFailed) if sink.is_left() => Ok(1),
+        Err(fault) => Err(fault),
     }
-    judge_log(
-        rt.alloc(),
-        form,
-        options,
-        report_form(words),
-        &mut source,
-        &mut sink,
-    )
 }
 
 /// Returns the form of the log.
@@ -158,10 +161,9 @@ fn report_form(words: &ArgMatches<'_>) -> ReportForm {
 }
 
 /// Returns the exit status of a judgement. Standard error names a fault.
-fn status_of(rt: &HostRuntime, file: Option<&str>, judged: Result<bool, JudgeFault>) -> u8 {
+fn status_of(rt: &HostRuntime, file: Option<&str>, judged: Result<u8, JudgeFault>) -> u8 {
     match judged {
-        Ok(true) => 0,
-        Ok(false) => 3,
+        Ok(status) => status,
         Err(JudgeFault::Size(SizeFault::Missing)) => {
             say_of_file(rt, None, "judge needs --block-frames");
             2

@@ -2,6 +2,7 @@
 
 use crate::arguments::{FILE, JSON};
 use crate::messages::{file_name, say_fault};
+use crate::output::Output;
 use crate::words::WIDTH;
 use clap::ArgMatches;
 use hp_live::{ObjectTalk, RowTalk};
@@ -36,9 +37,9 @@ fn serve_named(rt: &HostRuntime, words: &ArgMatches<'_>, name: &str) -> u8 {
 }
 
 /// Returns the exit status. Standard error names a fault, and the file if it could not be read.
-fn status_of(rt: &HostRuntime, file: Option<&str>, ended: Result<(), LabProgramFault>) -> u8 {
+fn status_of(rt: &HostRuntime, file: Option<&str>, ended: Result<u8, LabProgramFault>) -> u8 {
     match ended {
-        Ok(()) => 0,
+        Ok(status) => status,
         Err(fault) => {
             say_fault(rt, file, fault);
             1
@@ -57,21 +58,23 @@ fn scenario_name<'a>(words: &ArgMatches<'a>) -> Result<&'a str, &'static str> {
     }
 }
 
-/// Runs a scenario's lines, and then replies to the lines of standard input.
+/// Runs a scenario's lines, and then replies to the lines of standard input. Returns the exit
+/// status, which is 1 if the reader of standard output has gone.
 fn talk_after(
     rt: &HostRuntime,
     words: &ArgMatches<'_>,
     named: NamedScenario,
-) -> Result<(), LabProgramFault> {
+) -> Result<u8, LabProgramFault> {
     if words.get_flag(JSON) {
         let mut talk = ObjectTalk::begin(rt.alloc(), named, words.get_flag("state"))?;
         return talk_with(rt, &mut talk);
     }
     let width = words.get_one::<u64>("width").unwrap_or(WIDTH);
     let mut talk = RowTalk::begin(rt.alloc(), named, width, words.get_flag("orders"))?;
-    let mut writer = Counted::new(rt.stdout());
+    let mut writer = Output::new(rt.stdout());
     match write_all(&mut writer, talk.first_row().as_bytes()) {
         Ok(()) => talk_with(rt, &mut talk),
+        Err(Failed) if writer.is_left() => Ok(1),
         Err(Failed) => Err(LabProgramFault::WriteFailed),
     }
 }
@@ -86,18 +89,20 @@ fn scenario_in(rt: &HostRuntime, name: &str) -> Result<NamedScenario, LabProgram
     Ok(NamedScenario::read(rt.alloc(), bytes.as_slice())?)
 }
 
-/// Replies to the lines of standard input.
-fn talk_with<T: Talk>(rt: &HostRuntime, talk: &mut T) -> Result<(), LabProgramFault> {
+/// Replies to the lines of standard input. Returns the exit status, which is 1 if the reader of
+/// standard output has gone.
+fn talk_with<T: Talk>(rt: &HostRuntime, talk: &mut T) -> Result<u8, LabProgramFault> {
     let is_asked = rt.stdin().is_terminal() && rt.stdout().is_terminal();
     let mut reader = Prompted {
         input: Counted::new(rt.stdin()),
         terminal: rt.stderr(),
         is_asked,
     };
-    let mut writer = Counted::new(rt.stdout());
+    let mut writer = Output::new(rt.stdout());
     match run_talk(talk, rt.alloc(), &mut reader, &mut writer)? {
-        TalkEnd::Input | TalkEnd::Quit => Ok(()),
+        TalkEnd::Input | TalkEnd::Quit => Ok(0),
         TalkEnd::ReadFailed | TalkEnd::Worn => Err(LabProgramFault::ReadFailed),
+        TalkEnd::WriteFailed if writer.is_left() => Ok(1),
         TalkEnd::WriteFailed => Err(LabProgramFault::WriteFailed),
     }
 }

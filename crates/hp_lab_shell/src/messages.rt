@@ -22,8 +22,8 @@ const LINE_FORMS: &str =
      `0: plan: done`, or a memory block, as `block 1 offline`; `not ` \
      before it wants an end without it";
 
-/// Prints on standard error that this text cannot be read as a line of an end, and which forms a line
-/// may have.
+/// Prints on standard error that this text cannot be read as a line of an end, and which forms a
+/// line may have.
 pub(crate) fn say_no_line(rt: &HostRuntime, text: &str) -> Result<(), AllocError> {
     let mut shown = String::new(rt.alloc());
     write_escaped(&mut shown, text, Brackets::Kept)?;
