@@ -31,7 +31,7 @@ fn undo_of(serial: u64, to: u64, reply: Reply) -> Record {
 }
 
 /// Returns three records: a block is taken, given back, and both steps are undone. The reply to the
-/// undo has this `count` of steps.
+/// undo reports `count` steps.
 fn undone(alloc: Global, count: u64) -> Result<Vec<Record>, AllocError> {
     let mut records = Vec::with_capacity(alloc, 3)?;
     records.push(record_of(1, TAKE, Reply::Frame(Frame(0))))?;

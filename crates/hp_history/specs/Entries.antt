@@ -36,14 +36,14 @@ AreNumbered before entries = (j : ℕ) (e : Entry) → slice_get entries j ≡ S
 
 -- ---- where their deltas start
 
--- where the deltas of step `step` start on a tape of `deltas` deltas: at the end of the tape, if
--- there is no such step
+-- where the deltas of step `step` start on a tape of `deltas` deltas, or the end of the tape if there
+-- is no such step
 abbrev pub start_of : List Entry → (deltas step : ℕ) → ℕ
 start_of entries deltas step = option_map_or (λ e. e.start) (slice_get entries step) deltas
 
 -- ---- what they show
 
--- the deltas are those of step `at`, and no more than its bound. Latest first, they lead from the state
+-- the deltas undo step `at`, and are no more than its bound. Latest first, they lead from the state
 -- after the step back to the state before it, and each fits when its turn comes
 pub record IsEntry (c : CourseValue) (at : ℕ) (deltas : List Delta) : Type 0 where
   pub made : Record

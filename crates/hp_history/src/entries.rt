@@ -139,8 +139,8 @@ pub(crate) fn sole_place(entries: &[Entry], before: u64, op: Serial) -> Option<u
     None
 }
 
-/// Returns where the deltas of step `step` start on a tape of `deltas` deltas: at the end of the
-/// tape, if there is no such step.
+/// Returns where the deltas of step `step` start on a tape of `deltas` deltas, or the end of the
+/// tape if there is no such step.
 pub(crate) fn start_of(entries: &[Entry], deltas: usize, step: usize) -> usize
     ensures { result ≡ start_of entries.now deltas step }
 {

@@ -37,9 +37,9 @@ pub fn undisturbed_offline_commits()
 {}
 
 /// If each operation that holds a block in the base state has a number up to the serial of the last
-/// record before the base, then after a legal history each has a number up to the serial of its
-/// last record. So no operation with a greater number is live. At boot, no operation with a number
-/// above 0 is live.
+/// record before the base, then after a legal history each operation that holds a block has a
+/// number up to the serial of the history's last record. So no operation with a greater number is
+/// live. At boot, no operation with a number above 0 is live.
 pub fn operations_are_numbered()
     ensures boot { (l : LayoutParts) → AreClaimedUpTo 0 (boot_memory l).blocks }
     ensures history { (l : LayoutParts) (base : Memory) (before : ℕ) (h : List Record)

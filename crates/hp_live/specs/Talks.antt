@@ -72,8 +72,8 @@ number_of (did.Sealed count) lines = length lines
 abbrev pub object_end : List ℕ
 object_end = codes "}\n"
 
--- the reply is an object and a newline. The object begins with `front` and goes on with a comma and
--- `keys`, which are further keys and its last bracket
+-- the reply is `front`, a comma, `keys` and a newline. `keys` has the further keys of the object that
+-- begins with `front`, and its last bracket
 abbrev pub HasKeys : (front keys reply : List ℕ) → Type 0
 HasKeys front keys reply = reply ≡ front ++ (codes "," ++ (keys ++ codes "\n"))
 

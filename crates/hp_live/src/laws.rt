@@ -21,9 +21,9 @@ use hp_trace::live_rows_are_the_trace;
 /// What a session has written is what `hotplug serial` writes for its lines. Its lines are the
 /// given texts that can be read as lines. They are read like a scenario's `calls`, with plain
 /// numbers in place of names for results. With the state of the machine after them, what was
-/// written is a text of `hotplug serial` for a scenario of the layout and these lines. At most one
-/// such text has no line that ends with `OutOfMemory`. If the session began with a scenario, the
-/// scenario's lines and their text come first.
+/// written is a text of `hotplug serial` for a scenario of the layout and these lines. If no line
+/// of that text ends with `OutOfMemory`, it is the scenario's text (see `serial_text`). If the
+/// session began with a scenario, the scenario's lines and their text come first.
 pub fn answers_are_what_serial_writes()
     ensures lines { (l : LayoutParts) (texts : List (List ℕ)) (written : List ℕ) (s : SessionValue)
         → AnswersAll (started l) texts written s → WritesLines (booted l) s.lines written s.machine }

@@ -303,9 +303,9 @@ impl Machine {
         self.course.entry(at)
     }
 
-    /// Returns the deltas of step `at` and of all later steps, counted as in `entry`: none if `at`
-    /// is the number of steps, and `None` if it is greater. An undo that keeps only the steps
-    /// before `at` undoes just these, latest first.
+    /// Returns the deltas of step `at` and of all later steps, counted as in `entry`: an empty
+    /// slice if `at` is the number of steps, and `None` if it is greater. An undo that keeps only
+    /// the steps before `at` undoes just these, latest first.
     pub fn way_back(&self, at: u64) -> Option<&[Delta]>
         ensures { MatchOption result (length (net_of self.now.history) < at)
             (λ deltas. IsWayBack self.now at deltas.now) }

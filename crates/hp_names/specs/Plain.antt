@@ -1,5 +1,5 @@
 -- A line's text without names: `as NAME` is taken off, and `$NAME` is replaced by its result's
--- number. A text whose names are not understood is left unchanged, and cannot be read as a line.
+-- number. A name that is not understood stays, and the text then cannot be read as a line.
 use Rattle.std.specs.Prelude.{ℕ, List, [], ◌∷◌, Option, Some, None, if◌then◌else◌, option_and_then}
 use Rattle.std.specs.Fmt.{decimal}
 use Rattle.hp_scenario.specs.Words.{words_of}

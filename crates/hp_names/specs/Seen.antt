@@ -1,4 +1,4 @@
--- The value of a scenario with names in contracts.
+-- The value that a scenario with names has in contracts.
 use Rattle.hp_scenario.specs.Seen.{scenario_seen}
 use Rattle.hp_names.specs.Named.{NamedValue}
 use Rattle.hp_names.specs.declared.named.NamedScenario.{NamedScenario}

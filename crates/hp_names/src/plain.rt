@@ -13,8 +13,8 @@ use std::alloc::{AllocError, Global};
 /// A line's text without names, and what its names stood for.
 #[derive(Drop)]
 pub struct PlainLine {
-    /// The text, without ` as NAME`, and with a number in place of `$NAME`. Unchanged if there is
-    /// no name, or if the name is not understood. In the second case it cannot be read as a line.
+    /// The text, without ` as NAME`, and with a number in place of `$NAME`. A name that is not
+    /// understood stays, and the text then cannot be read as a line.
     pub text: Text,
     /// The index of the line whose result the name after `$` means.
     pub source: Option<usize>,

@@ -29,8 +29,8 @@ abbrev pub IsBeginReply : Reply → Type 0
 IsBeginReply reply = ((op : ℕ) × (reply ≡ Opened op)) ⊎ ((refusal : Refusal) × (reply ≡ Refused refusal))
 
 -- a reply to a Migrate, a Commit or a Cancel of a live operation; then to any event of a live
--- operation. The last claims nothing about a DrainFor for a processor that the machine does not have,
--- or about other events
+-- operation. `IsLiveReply` claims nothing about a DrainFor for a processor that the machine does not
+-- have, or about other events
 abbrev pub IsMigrateReply : Reply → Type 0
 IsMigrateReply reply =
     ((from : ℕ) × (to : ℕ) × (reply ≡ Moved from to))
@@ -55,9 +55,9 @@ IsDriverReply cpus event reply = (reply ≡ Refused NoOp) ⊎ IsLiveReply cpus e
 
 -- ---- one call, and several
 
--- a call gave a receipt of the event that was asked for. The port has this receipt more, and shows no
--- fault. A Begin got a reply to a Begin; if an operation was opened before, the event got a reply to an
--- event of an operation
+-- a call gave a receipt of the event that was asked for. It is added to the port's receipts, and the
+-- port shows no fault. A Begin got a reply to a Begin; if an operation was opened before, the event got
+-- a reply to an event of an operation
 pub record IsGiven (old : PortValue) (event : Event) (r : Receipt) (new : PortValue) : Type 0 where
   pub asked : r.event ≡ event
   pub value : new ≡ with_receipts old (r ∷ []) None

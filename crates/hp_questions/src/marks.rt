@@ -207,7 +207,8 @@ fn is_answered(reply: &Pattern, cpu: Option<Cpu>, processors: u32, records: &[Re
     }
 }
 
-/// Returns whether this processor's reply after `earlier` others has come and matches.
+/// Returns whether this processor's reply after `earlier` others has come and matches. False if the
+/// processor is not below `processors`.
 fn is_answered_at(
     reply: &Pattern,
     cpu: Cpu,

@@ -1,6 +1,5 @@
--- Exports again, from one place, the types and variants of zones, wishes, control files and
--- their faults that this crate uses. Some variants are renamed, such as `Normal` to
--- `NormalZone`. Declares nothing.
+-- Exports again, from one place, the types and variants of rows and of control files that this crate
+-- uses. Some variants are renamed, such as `Normal` to `NormalZone`. Declares nothing.
 pub use Rattle.hp_units.specs.declared.rows.Zone.{Zone}
 pub use Rattle.hp_units.specs.declared.rows.Zone.TheVariants.{Normal as NormalZone, Movable as MovableZone}
 pub use Rattle.hp_units.specs.declared.rows.Wish.TheVariants.{Off as OffWish}

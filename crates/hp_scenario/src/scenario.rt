@@ -30,8 +30,8 @@ pub struct Scenario {
 }
 
 impl Scenario {
-    /// Reads a scenario from its bytes. A scenario in the usual form is read token by token,
-    /// without a tree of JSON values. Other bytes are read by `read_any`.
+    /// Reads a scenario from its bytes. Most scenarios in the usual form are read token by token,
+    /// without a tree of JSON values. All other bytes are read by `read_any`.
     pub fn read(alloc: Global, bytes: &[u8]) -> Result<Scenario, ScenarioFault>
         ensures { Gives scenario_seen result (scenario_in bytes.now) }
     {

@@ -22,8 +22,8 @@ const CUT: &str = " ..";
 ///
 /// A block is drawn as `trace` draws it, without its frames: `N` or `M` if it is online in this
 /// zone, `N>off` or `M>off` if it is going offline, `off` or `absent`. Neighbours that are drawn
-/// alike are joined, as in `0-3:N`. A line has as many blocks as fit into 100 bytes with ` ..`
-/// behind them, and ` ..` in place of the others.
+/// alike are joined, as in `0-3:N`. If a line would be longer than 100 bytes, it has only as many
+/// blocks as leave room for ` ..`, and ` ..` in place of the others.
 pub fn write_summary(
     out: &mut String,
     alloc: Global,
@@ -130,8 +130,8 @@ fn write_blocks(
     Ok(())
 }
 
-/// Returns whether `out`, followed by `more` and then by `CUT` unless `more` is the last, has at most
-/// `most` bytes.
+/// Returns whether `out`, followed by `more` and then by `CUT` unless `more` is the last, has at
+/// most `most` bytes.
 fn has_room(out: &str, more: &str, is_last: bool, most: usize) -> bool {
     let long = out.len().saturating_add(more.len());
     let after = if is_last { 0 } else { CUT.len() };

@@ -155,8 +155,8 @@ impl<L: Job> Locked<L> {
         Ok(volume)
     }
 
-    /// Called for its contract: if a share has the parts of all processors, its amount is the
-    /// total. Has no effect.
+    /// Called for its contract: if a share has the parts of all processors, its amount is the total
+    /// of its ledger. Has no effect.
     pub(crate) fn audit(&mut self, share: &mut Share<L>, handed: &mut Share<Sealed<L>>)
         ensures locked { self.new ≡ self.old }
         ensures share { (share.new.parts ≡ share.old.parts) × (share.new.amount ≡ share.old.amount) }

@@ -97,7 +97,7 @@ fn push_block_events(
     Ok(())
 }
 
-/// Adds the allocs of all pieces that did not stay in use.
+/// Adds the allocs of all pieces in `after`, except those that stayed in use.
 fn push_allocs(
     log: &mut Vec<LogEvent>,
     layout: &Layout,

@@ -44,7 +44,7 @@ impl Model for Steps {
 }
 
 impl Steps {
-    /// Starts at the state of `image`, with `records` as the steps that led to it.
+    /// Starts at the well placed state of `image`, with `records` as the steps that led to it.
     pub fn start(alloc: Global, image: &Image, records: Vec<Record>) -> Result<Steps, AllocError>
         requires placed { IsWellPlaced image.now.layout image.now.memory }
         ensures { IfOk result (λ steps. steps ≡ record {

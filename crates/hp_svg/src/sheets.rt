@@ -193,9 +193,9 @@ impl Sheet {
         self.cells_at(block) + cells_of(self.cell, (offset + bars) as usize)
     }
 
-    /// Returns n if each n-th frame of a block gets its number above its cell. This is 1 if a cell
-    /// has room for a number, the size of a pageblock if that has room, and otherwise the size of a
-    /// block. The longest number has `digits` digits, which are 5 pixels wide.
+    /// Returns the step from one frame number above a block's cells to the next: 1 if a cell has
+    /// room for a number, the size of a pageblock if that has room, and otherwise the size of a
+    /// block. The longest number has `digits` digits, each 5 pixels wide.
     pub(crate) fn number_step(&self, digits: usize) -> u64
         ensures { 0 < result }
     {

@@ -11,10 +11,10 @@ abbrev pub with_last : List (List ℕ) → (last : List ℕ) → List (List ℕ)
 with_last lines [] = lines
 with_last lines (b ∷ bs) = lines ++ (b ∷ bs) ∷ []
 
--- of the lines in `bytes`, the bytes that were read, `lines` are those that were replied to before the
--- talk ended. At the end of the input these are all lines, and at a line `quit` those before it. After
--- a read that failed, or after too many reads, they are all lines that end with a newline. After a
--- write that failed, they are some of the lines, from the first on
+-- `bytes` were read, and `lines` are the lines in them that were replied to before the talk ended. At
+-- the end of the input these are all lines, and at a line `quit` those before it. After a read that
+-- failed, or after too many reads, they are all lines that end with a newline. After a write that
+-- failed, they are some of the lines, from the first on
 abbrev pub IsEndOf : TalkEnd → (bytes : List ℕ) → (lines : List (List ℕ)) → (left : Option (List ℕ)) → Type 0
 IsEndOf ends.Input bytes lines left =
     IsAtEnd left × (front : List (List ℕ)) × (last : List ℕ) × (bytes ≡ ended front ++ last)
@@ -26,7 +26,7 @@ IsEndOf ends.WriteFailed bytes lines left =
     (beyond : List ℕ) × (bytes ++ newline ∷ [] ≡ ended lines ++ beyond)
 IsEndOf ends.Worn bytes lines left = (last : List ℕ) × (bytes ≡ ended lines ++ last) × IsWhole last
 
--- lines were replied to, and all replies were sent; after a write that failed, only a beginning of them
+-- lines were replied to, and all replies were sent, or a beginning of them if a write failed
 abbrev pub IsSaid : {S : Type 0} → (replies : S → List ℕ → List ℕ → S → Type 0) → TalkEnd → (old : Desk S)
     → (lines : List (List ℕ)) → (new : Desk S) → Type 0
 IsSaid replies ends.WriteFailed old lines new = Fails replies old lines new

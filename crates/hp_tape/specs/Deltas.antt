@@ -165,7 +165,7 @@ abbrev pub IsFresh : FrameChange → PageFrames → Type 0
 IsFresh (Mapped frame) v = buffer_of v frame ≡ None
 IsFresh change v = Unit {0}
 
--- there is a buffer, and its words are 0 with word `index` set to `value`
+-- there is a buffer, and it holds zeros with word `index` set to `value`
 abbrev pub HasOneWord : (index value : ℕ) → Option (List ℕ) → Type 0
 HasOneWord index value None = ⊥
 HasOneWord index value (Some words) = words ≡ slice_set (replicate (length words) 0) index value

@@ -10,8 +10,8 @@ use refused_values::memories::Noted;
 use refused_values::{Case, Outcome, Trouble, expect};
 use std::alloc::Global;
 
-/// Lines whose first three steps may allocate, since they make the words of pages. The later steps
-/// do not. Commits and cancels are left out: they make a list of their blocks.
+/// Lines whose first three steps may allocate, since one of them makes the words of a page. The
+/// later steps do not. Commits and cancels are left out: they make a list of their blocks.
 pub const STEPS: &str = concat!(
     r#""0 map db 0","0 write db 0 1 7","0 map web 0","0 kalloc 0","0 kalloc 1","0 kfree 2","#,
     r#""0 read db 0 1","0 write db 0 0 9","0 online 3 normal","0 begin off 2","0 drainfor 10 0","#,

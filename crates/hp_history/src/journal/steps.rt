@@ -48,9 +48,9 @@ impl Journal {
         Some(between(deltas, start, end))
     }
 
-    /// Returns the deltas of step `at` and of all later steps, counted as in `entry`: none if
-    /// `at` is the number of steps, and `None` if it is greater. Latest first, they lead back
-    /// from the present state to the state before step `at`: an undo that drops these steps
+    /// Returns the deltas of step `at` and of all later steps, counted as in `entry`: an empty
+    /// slice if `at` is the number of steps, and `None` if it is greater. Latest first, they lead
+    /// back from the present state to the state before step `at`: an undo that drops these steps
     /// takes these deltas off.
     pub fn way_back(&self, at: u64) -> Option<&[Delta]>
         ensures { MatchOption result (length (net_of self.now.history) < at)

@@ -37,8 +37,8 @@ impl Image {
     }
 
     /// Returns whether the lists, the kernel blocks and the pages are where they may be, and each
-    /// frame is in one place. Before, the frames of offline and absent blocks must be marked, and
-    /// no others.
+    /// frame is in one place. Before the call, the frames of offline and absent blocks must be
+    /// marked, and no others.
     fn is_each_once(&self, marks: &mut Marks) -> bool
         requires { (frame : ℕ)
             → mark_of marks.old frame ≡ unplugged self.now.layout self.now.memory.blocks.rows frame }
