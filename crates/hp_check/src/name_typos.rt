@@ -97,7 +97,8 @@ pub(crate) fn write_name_typo(
     write_meant(out, &typo.meant)
 }
 
-/// Writes the name that was probably meant.
+/// Writes the name that was probably meant, or which processor has the name itself. Writes nothing
+/// if neither is known.
 fn write_meant(out: &mut String, meant: &Meant) -> Result<(), AllocError>
     ensures { OnOk result (AddsText (string_bytes out.old) (string_bytes out.new)) }
 {

@@ -130,7 +130,8 @@ fn refusal_of(words: &[&str]) -> Option<Refusal> {
     }
 }
 
-/// Returns the end of a plan with these words.
+/// Returns the end of a plan with these words. Returns `None` also for the words of a plan that was
+/// left, since no call finished it.
 fn end_of(words: &[&str]) -> Option<OpEnd> {
     match words {
         ["done"] => Some(OpEnd::Done),

@@ -19,9 +19,9 @@ const LIMIT: u64 = u64::MAX;
 /// As a number of setup lines: all lines of the scenario.
 pub(crate) const ALL: u64 = u64::MAX;
 
-/// Reports what is wrong with a scenario whose first `setup` lines are the setup, and how many
-/// interleavings the scripts after it have. The status is 0 if there is nothing but warnings,
-/// otherwise 1.
+/// Reports what is wrong with a scenario whose first `setup` lines are the setup. Then comes the
+/// line that `count_line` returns, which reports how many interleavings the scripts have; it may be
+/// empty. The status is 0 if there is nothing but warnings, otherwise 1.
 #[tactic(auto, using(crate::proofs::Judged::status_is))]
 pub fn checked(alloc: Global, input: &[u8], setup: u64) -> Result<TextAndStatus, LabProgramFault>
     ensures ok { IfOk result (λ answer. IsCheckOf setup input.now (string_bytes answer.text) answer.status) }

@@ -1,4 +1,5 @@
--- The effect of each step of a walk over a state on the places of frames.
+-- Marks. A walk over a state finds the place of each frame: step by step it sets the places of some
+-- frames, such as those on a processor's lists. A mark is what one such step does to the places.
 use Rattle.std.specs.Prelude.{ℕ, zero, suc, ◌≡◌, ◌+◌, ◌*◌, ◌^◌, ◌==◌, List, Option, Some, None, option_map, slice_get, if◌then◌else◌}
 use Rattle.hp_units.specs.Arithmetic.{block_of, pageblock_of, pageblock_size}
 use Rattle.hp_units.specs.FreeAreas.{is_on}

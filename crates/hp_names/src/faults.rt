@@ -100,7 +100,8 @@ fn reference_fault(
     })
 }
 
-/// Returns `ReferenceNotHere` if a word begins with `$`; if not, `fault` if there is a name.
+/// Returns `ReferenceNotHere` if a word begins with `$`; if not, `fault` if the text ends in `as`
+/// and a word that is no name or may not be there.
 fn stray_fault(has_reference: bool, has_name: bool, fault: NameFault) -> Option<NameFault> {
     if has_reference {
         Some(NameFault::ReferenceNotHere)

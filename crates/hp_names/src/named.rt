@@ -70,10 +70,10 @@ pub struct NamedScenario {
 }
 
 impl NamedScenario {
-    /// Reads a scenario whose lines may have names for their results. A text without names is read
-    /// as by [`Scenario::read`], and just as fast if it has no `$` byte.
+    /// Reads a scenario whose lines may have names for their results. One without names is read as
+    /// by [`Scenario::read`], and just as fast if it has no `$` byte and no fault in a line.
     ///
-    /// A text whose names are not understood cannot be read as a line.
+    /// A text of `calls` whose names are not understood cannot be read as a line: `BadLine`.
     pub fn read(alloc: Global, bytes: &[u8]) -> Result<NamedScenario, ScenarioFault>
         ensures { Gives named_seen result (named_in bytes.now) }
     {

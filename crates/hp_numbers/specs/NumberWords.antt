@@ -4,7 +4,7 @@ use Rattle.std.specs.Fmt.{decimal}
 use Rattle.std.specs.Str.{all_ascii_digits}
 use Rattle.std.specs.Str.Parse.{digits_value}
 
--- no `+` in front, and no `0` before another byte
+-- the word begins with neither `+` nor `0`, or is `0` alone
 abbrev pub is_bare : List ℕ → Bool
 is_bare word = not (slice_index word 0 == 43) && (nat_lt (length word) 2 || not (slice_index word 0 == 48))
 

@@ -215,7 +215,8 @@ impl Driver {
         }
     }
 
-    /// Returns the stage after a commit: a round of drains if a frame is in use.
+    /// Returns the stage after a commit: a round of drains if a frame of a going block is in no
+    /// free block (it may be on a processor's list), and otherwise the end.
     fn after_commit(&self, op: Serial, reply: &Reply) -> Stage
         ensures next { Follows self.now.cpus self.now.left (Commit op) reply.now result }
         ensures end { EndsAs self.now.why (Commit op) reply.now result }

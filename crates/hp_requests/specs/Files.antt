@@ -14,7 +14,7 @@ halves_of path =
     (before_first (λ b. b == 47) path, after_first (λ b. b == 47) path)
     else None
 
--- the file of a memory block with this name
+-- the kind of a memory block's file, by the file's name
 unfoldable pub block_file_named : List ℕ → Option BlockFile
 block_file_named name =
     if bytes_eq name (codes "state") then Some StateFile

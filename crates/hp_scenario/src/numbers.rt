@@ -73,7 +73,7 @@ fn plain_number(word: &[u8]) -> Option<u64>
     digits_value(word)
 }
 
-/// Returns whether a word has no plus sign in front, and no 0 before another byte.
+/// Returns whether a word begins with neither a plus sign nor a 0; the word `0` alone is bare too.
 fn is_bare(word: &[u8]) -> bool
     requires { 0 < length word.now }
     ensures { result ≡ bare word.now }

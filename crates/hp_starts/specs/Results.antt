@@ -61,10 +61,10 @@ on_begun cpu earlier place w =
     if count_by (line_begins cpu) (drop (place + 1) earlier) == 0 then Latest w
     else Nth (count_by (line_begins cpu) (take place earlier)) w
 
--- the work of a line's event on the result of the line at index `place`, which is `line`. It is either
--- work on the operation that `line` began, or a free of the frame that `line` got. The frame is given
--- by how many kernel blocks the script asked for before it. `None` if `line` has no result that the
--- event can use, or if the work is not an event
+-- what the work `m` of a later line does with the result of `line`, which has the index `place` in
+-- `earlier`, the lines before the later one. It works on the operation that `line` began, or frees
+-- the frame that `line` got, given by how many kernel blocks the script asked for before `line`.
+-- `None` if `line` has no result that `m` can use, or if `m` is not an event
 abbrev pub asked_on : (cpu : ℕ) → (earlier : List Line) → (place : ℕ) → Line → asks.Meaning → Option OwnWork
 asked_on cpu earlier place line (asks.event e) =
     if line_opens cpu line then option_map (on_begun cpu earlier place) (work_in e)

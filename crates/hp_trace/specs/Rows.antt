@@ -1,4 +1,5 @@
--- The rows of a trace: each has a request, its answer, and the memory after it.
+-- The rows of a trace: each has a request, its answer, if there is one, and the memory after it.
+-- Below a row there may be a text of lines, which has none of these.
 use Rattle.std.specs.Prelude.{ℕ, ◌≡◌, List, [], ◌∷◌, ◌++◌, map, Option, None, Some}
 use Rattle.std.proofs.Common.{subst}
 use Rattle.std.specs.Str.Lines.{lines}

@@ -27,8 +27,8 @@ pub enum SizeFault {
     Missing,
     /// The log has another number than the options.
     Different,
-    /// The number in the log is not a power of two up to 2^26, or with it there are 2^32 frames or
-    /// more up to the range's end.
+    /// The log's number of frames per memory block is not a power of two up to 2^26, or it is so
+    /// great that the memory blocks up to the end of the range have 2^32 frames or more.
     Wrong,
 }
 

@@ -234,7 +234,7 @@ fn scripts_have_their_report(rt: HostRuntime) -> Result<(), Fail> {
     Ok(())
 }
 
-/// Returns whether the report on `count` nested lists is the expected one.
+/// Returns whether the report on a text of `count` opening brackets is the expected one.
 fn is_said(alloc: Global, count: usize, expected: &str) -> Result<bool, AllocError> {
     let text = "[".repeat(alloc, count)?;
     has_report(alloc, &text, expected)

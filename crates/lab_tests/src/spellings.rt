@@ -21,8 +21,8 @@ const NO_LINES: &str =
      \"high\": 2,\n\"owners\": 1, \"pages\": 2, \"words\": 1, \"history\": 5,\n\
      \"boot\": [\"movable\"]},\n\"calls\": [\n\n]}\n";
 
-/// Scripts that name operation 0: processor 1 in line 4, before its begin, and processor 2 in line
-/// 6, after its plan in line 2.
+/// A scenario whose lines name operation 0: processor 1 in line 1, in line 4 before its begin, and
+/// in line 8 after it, and processor 2 in line 6, after its plan in line 2.
 const SCRIPTS: &str =
     "{\"layout\": {\"order\": 0, \"pageblocks\": 4, \"blocks\": 1, \"cpus\": 3, \"batch\": 1, \
      \"high\": 2, \"owners\": 1, \"pages\": 2, \"words\": 1, \"history\": 9, \"boot\": [\"movable\"]}, \
