@@ -1,5 +1,5 @@
 -- A machine whose volumes and history are read again.
-use Rattle.std.proofs.Common.{◌≡◌, ℕ, zero, suc, inl, inr, Bool, true, false, List, [], ◌∷◌, ◌++◌, append_assoc, codes, Some, Result, Ok, slice_get, take, refl, sym, ap, subst, ◌∙◌, arith}
+use Rattle.std.proofs.Common.{◌≡◌, ℕ, zero, suc, inl, inr, Bool, true, false, List, [], ◌∷◌, ◌++◌, append_assoc, codes, Some, Ok, slice_get, take, refl, sym, ap, ◌∙◌, arith}
 use Rattle.std.specs.Prelude.{◌≢◌, MatchBool, get_or}
 use Rattle.std.proofs.lemmas.List.Elements.{All-get_or}
 use Rattle.std.proofs.lemmas.List.Sorted.{All-permutation}
@@ -17,11 +17,7 @@ use Rattle.hp_replays.specs.declared.replaying.ReplayFault.{ReplayFault}
 use Rattle.hp_replays.specs.declared.replaying.ReplayFault.TheVariants as replaying
 use Rattle.hp_history.specs.declared.volumes.Volume.{Volume}
 use Rattle.hp_replays.proofs.Replays.{refutes}
-use Rattle.hp_scenario.specs.declared.fault.ScenarioFault.{ScenarioFault}
 use Rattle.hp_scenario.specs.declared.lines.Line.{Line}
-use Rattle.hp_scenario.specs.Gives.{◌>>=◌}
-use Rattle.hp_scenario.specs.Scenario.{ScenarioValue}
-use Rattle.hp_scenario.specs.Scripts.{scripts_of}
 use Rattle.hp_shared.specs.Volumes.{IsSealOf}
 use Rattle.hp_text.specs.State.{newline}
 use Rattle.hp_workers.specs.Seals.{AreSealed}
@@ -30,7 +26,7 @@ use Rattle.hp_commands.specs.Audits.{HasAuditFault, HasWrongRecord, IsAudited, L
 use Rattle.hp_commands.specs.Faults.{IsFaultOf, IsRefuted, replay_fault_from}
 use Rattle.hp_commands.specs.Runs.{IsRunOf, IsWorkedOff, SealsSome, records_line, scripts_in}
 use Rattle.hp_commands.specs.declared.fault.ProgramFault.{ProgramFault}
-use Rattle.hp_commands.specs.declared.fault.ProgramFault.TheVariants.{ReadFailed, TooLong, NotJson, BadShape, Layout, BadLine, NotForRun, OutOfMemory, NotStarted, SeatMissing, Mismatch, WrongReply, WrongSerial, AuditDiffers, WriteFailed, BrokenChain}
+use Rattle.hp_commands.specs.declared.fault.ProgramFault.TheVariants.{OutOfMemory, WrongReply, WrongSerial, AuditDiffers, BrokenChain}
 use Rattle.hp_commands.specs.declared.commands.Command.TheVariants.{Audit}
 
 -- ---- the replay of volumes and of a machine's history
@@ -58,34 +54,8 @@ pub reached : (volumes : List Volume) (m : MachineValue) (vs : List Volume) (l :
     → vs ≡ volumes → l ≡ m.layout → IsChain l vs → base ≡ record { layout = l; memory = state_after l vs }
     → theirs ≡ record { layout = m.layout; memory = m.base } → base.memory ≡ theirs.memory
     → LeadsToBase volumes m
-reached volumes m vs l base theirs same there chain is theirs_is alike = (
-  subst (λ (k : LayoutParts). IsChain k volumes) there
-      (subst (λ (xs : List Volume). IsChain l xs) same chain),
-  sym (ap (λ (p : Pictured). p.memory) theirs_is)
-      ∙ (sym alike ∙ (ap (λ (p : Pictured). p.memory) is
-      ∙ (ap (λ (k : LayoutParts). state_after k vs) there
-      ∙ ap (λ (xs : List Volume). state_after m.layout xs) same))),
-)
-
--- what holds of the base, the count and the history that were read holds of the machine's
-read_of : (P : LayoutParts → Memory → ℕ → List Record → Type 0) (m : MachineValue) (base : Pictured)
-    (before : ℕ) (h : List Record)
-    → base ≡ record { layout = m.layout; memory = m.base } → before ≡ m.before → h ≡ m.history
-    → P base.layout base.memory before h → P m.layout m.base m.before m.history
-read_of P m base before h based counted records at =
-    subst (λ (p : Pictured). P p.layout p.memory m.before m.history) based
-    (subst (λ (n : ℕ). P base.layout base.memory n m.history) counted
-    (subst (λ (g : List Record). P base.layout base.memory before g) records at))
-
--- the state that the history leads to
-replayed_memory : (m : MachineValue) (h : List Record) (base replayed : Pictured)
-    → base ≡ record { layout = m.layout; memory = m.base } → h ≡ m.history
-    → replayed ≡ record { layout = base.layout; memory = value_of base.layout base.memory h }
-    → replayed.memory ≡ value_of m.layout m.base m.history
-replayed_memory m h base replayed based records is =
-    ap (λ (p : Pictured). p.memory) is
-    ∙ (ap (λ (p : Pictured). value_of p.layout p.memory h) based
-    ∙ ap (λ (g : List Record). value_of m.layout m.base g) records)
+reached volumes m vs l base theirs same there chain is theirs_is alike =
+    (rw (there, same) at chain, sym (rw (is, theirs_is, there, same) at alike))
 
 -- a replay finds the history at fault
 pub history_refused : (volumes : List Volume) (m : MachineValue) (before : ℕ) (h : List Record)
@@ -94,9 +64,8 @@ pub history_refused : (volumes : List Volume) (m : MachineValue) (before : ℕ) 
     → IsFault base.layout base.memory before h fault → Refutes base.layout base.memory before h fault
     → HasAuditFault volumes m (replay_fault_from fault)
 history_refused volumes m before h base fault based counted records here only =
-    replay_refused volumes m fault
-    (read_of (λ l b n g. IsFault l b n g fault) m base before h based counted records here)
-    (read_of (λ l b n g. Refutes l b n g fault) m base before h based counted records only)
+    replay_refused volumes m fault (rw (based, counted, records) at here)
+    (rw (based, counted, records) at only)
 
 -- it leads to the machine's state, or to another one
 pub led : (m : MachineValue) (before : ℕ) (h : List Record) (base replayed image : Pictured)
@@ -105,11 +74,8 @@ pub led : (m : MachineValue) (before : ℕ) (h : List Record) (base replayed ima
     → replayed ≡ record { layout = base.layout; memory = value_of base.layout base.memory h }
     → image ≡ record { layout = m.layout; memory = m.state } → replayed.memory ≡ image.memory
     → LeadsToState m
-led m before h base replayed image based counted records legal is image_is alike = (
-  read_of (λ l b n g. IsLegal l b n g) m base before h based counted records legal,
-  sym (ap (λ (p : Pictured). p.memory) image_is)
-      ∙ (sym alike ∙ replayed_memory m h base replayed based records is),
-)
+led m before h base replayed image based counted records legal is image_is alike =
+    (rw (based, counted, records) at legal, sym (rw (is, image_is, based, records) at alike))
 
 pub led_elsewhere : (volumes : List Volume) (m : MachineValue) (h : List Record)
     (base replayed image : Pictured)
@@ -118,8 +84,7 @@ pub led_elsewhere : (volumes : List Volume) (m : MachineValue) (h : List Record)
     → image ≡ record { layout = m.layout; memory = m.state } → (replayed.memory ≢ image.memory)
     → IsAudited volumes m → ⊥
 led_elsewhere volumes m h base replayed image based records is image_is other sound =
-    other (replayed_memory m h base replayed based records is
-    ∙ (sym sound.state ∙ sym (ap (λ (p : Pictured). p.memory) image_is)))
+    other (rw (is, image_is, based, records) (sym sound.state))
 
 -- ---- a machine of a run
 
@@ -134,30 +99,29 @@ unsealed_is_audited l scripts ends m count worked = record {
   state = worked.closed.shared.history.state;
 }
 
+-- a legal history has no record at fault
+no_fault : (l : LayoutParts) (s : Memory) (before : ℕ) (h : List Record) (fault : ReplayFault)
+    → (fault ≡ replaying.OutOfMemory → ⊥) → IsLegal l s before h → IsFault l s before h fault → ⊥
+no_fault l s before h replaying.OutOfMemory known legal wrong = known refl
+no_fault l s before h (replaying.WrongReply serial) known legal wrong =
+    refutes l s before h (replaying.WrongReply serial) wrong legal
+no_fault l s before h (replaying.WrongSerial at) known legal wrong =
+    refutes l s before h (replaying.WrongSerial at) wrong legal
+
 -- a volume that a seal handed out has no record at fault
 seal_is_legal : (l : LayoutParts) (volumes : List Volume) (at : ℕ) (v : Volume) (fault : ReplayFault)
     → IsSealOf l v 0 → HasWrongRecords l volumes at v fault → ⊥
 seal_is_legal l volumes at v fault seal wrong =
-    by_fault fault wrong.known (refutes l (state_after l (take at volumes)) (records_in (take at volumes))
-    v.records fault wrong.records)
+    no_fault l (state_after l (take at volumes)) (records_in (take at volumes)) v.records fault wrong.known
+    legal wrong.records
   where
     legal : IsLegal l (state_after l (take at volumes)) (records_in (take at volumes)) v.records
     legal =
-        let m = seal.seen.machine in
-        subst (λ (h : List Record). IsLegal l (state_after l (take at volumes)) (records_in (take at volumes))
-        h) (sym (ap (λ (x : Volume). x.records) seal.is))
-        (subst (λ (n : ℕ). IsLegal l (state_after l (take at volumes)) n m.history)
-        (sym (ap (λ (x : Volume). x.before) seal.is) ∙ wrong.count)
-        (subst (λ (b : Memory). IsLegal l b m.before m.history)
-        (sym (ap (λ (x : Volume). x.base.memory) seal.is) ∙ ap (λ (p : Pictured). p.memory) wrong.base)
-        (subst (λ (k : LayoutParts). IsLegal k m.base m.before m.history) seal.shared.layout
-        seal.shared.history.legal)))
-
-    by_fault : (f : ReplayFault) → (f ≡ replaying.OutOfMemory → ⊥)
-        → Refutes l (state_after l (take at volumes)) (records_in (take at volumes)) v.records f → ⊥
-    by_fault (replaying.WrongReply serial) known only = only legal
-    by_fault (replaying.WrongSerial place) known only = only legal
-    by_fault replaying.OutOfMemory known only = known refl
+        let base =
+        sym (ap (λ (x : Volume). x.base.memory) seal.is) ∙ ap (λ (p : Pictured). p.memory) wrong.base in
+        let count = sym (ap (λ (x : Volume). x.before) seal.is) ∙ wrong.count in
+        let records = sym (ap (λ (x : Volume). x.records) seal.is) in
+        rw (seal.shared.layout, base, count, records) at seal.shared.history.legal
 
 -- so no record of a run is at fault
 no_record : (l : LayoutParts) (scripts : List (List Line)) (ends : List (List LineEnd))
@@ -166,23 +130,18 @@ no_record : (l : LayoutParts) (scripts : List (List Line)) (ends : List (List Li
     → HasWrongRecord volumes m fault → ⊥
 no_record l scripts ends volumes m count fault known worked (inl (at, (v, wrong))) =
     let sealed : AreSealed m.layout volumes =
-    subst (λ (k : LayoutParts). AreSealed k volumes) (sym worked.closed.shared.layout) (All-permutation
+    rw worked.closed.shared.layout (All-permutation
     (λ (x : Volume). IsSealOf l x 0) worked.handed volumes worked.same worked.workers.sealed) in
-    seal_is_legal m.layout volumes at v fault (subst (λ (x : Volume). IsSealOf m.layout x 0) (here_is volumes
-    at v wrong.first.here) (All-get_or (λ (x : Volume). IsSealOf m.layout x 0) volumes at v
-    (slice_get_within volumes at v wrong.first.here) sealed)) wrong
+    seal_is_legal m.layout volumes at v fault (rw (here_is volumes at v wrong.first.here) at (All-get_or
+    (λ (x : Volume). IsSealOf m.layout x 0) volumes at v (slice_get_within volumes at v wrong.first.here)
+    sealed)) wrong
   where
     here_is : (vs : List Volume) (k : ℕ) (x : Volume) → slice_get vs k ≡ Some x → get_or vs k x ≡ x
     here_is [] k x e = absurd cc
     here_is (y ∷ vs) zero x e = cc
     here_is (y ∷ vs) (suc k) x e = here_is vs k x e
-no_record l scripts ends volumes m count (replaying.WrongReply serial) known worked (inr wrong) =
-    refutes m.layout m.base m.before m.history (replaying.WrongReply serial) wrong
-    worked.closed.shared.history.legal
-no_record l scripts ends volumes m count (replaying.WrongSerial at) known worked (inr wrong) =
-    refutes m.layout m.base m.before m.history (replaying.WrongSerial at) wrong
-    worked.closed.shared.history.legal
-no_record l scripts ends volumes m count replaying.OutOfMemory known worked (inr wrong) = known refl
+no_record l scripts ends volumes m count fault known worked (inr wrong) =
+    no_fault m.layout m.base m.before m.history fault known worked.closed.shared.history.legal wrong
 
 -- and where states differ, some line seals
 differing : (input : List ℕ) (l : LayoutParts) (scripts : List (List Line)) (ends : List (List LineEnd))
@@ -206,17 +165,7 @@ pub audit_fails : (input : List ℕ) (ends : List (List LineEnd)) (volumes : Lis
     (count : ℕ) (fault : ProgramFault)
     → IsRunOf input ends volumes m count → HasAuditFault volumes m fault
     → IsFaultOf Audit (Some input) ⊥ ⊥ fault
-audit_fails input ends volumes m count ReadFailed ran h = absurd h
-audit_fails input ends volumes m count TooLong ran h = absurd h
-audit_fails input ends volumes m count NotJson ran h = absurd h
-audit_fails input ends volumes m count BadShape ran h = absurd h
-audit_fails input ends volumes m count (Layout f) ran h = absurd h
-audit_fails input ends volumes m count (BadLine n) ran h = absurd h
-audit_fails input ends volumes m count (NotForRun n) ran h = absurd h
 audit_fails input ends volumes m count OutOfMemory ran h = tt
-audit_fails input ends volumes m count (NotStarted c) ran h = absurd h
-audit_fails input ends volumes m count SeatMissing ran h = absurd h
-audit_fails input ends volumes m count (Mismatch n) ran h = absurd h
 audit_fails input ends volumes m count (WrongReply n) ran h =
     absurd (no_record ran.scenario.layout ran.scripts ends volumes m count (replaying.WrongReply n)
     (λ e. absurd cc) ran.worked h.0)
@@ -224,29 +173,26 @@ audit_fails input ends volumes m count (WrongSerial n) ran h =
     absurd (no_record ran.scenario.layout ran.scripts ends volumes m count (replaying.WrongSerial n)
     (λ e. absurd cc) ran.worked h.0)
 audit_fails input ends volumes m count AuditDiffers ran h =
-    let parted = ap (λ (r : Result ScenarioValue ScenarioFault). r >>= scripts_of) ran.read ∙ ran.parted in (
+    let parted : scripts_in input ≡ Ok ran.scripts = rw ran.read ran.parted in (
       tt,
       (
         differing input ran.scenario.layout ran.scripts ends volumes m count parted ran.worked h,
         refuted input ends volumes m count AuditDiffers ran h,
       ),
     )
-audit_fails input ends volumes m count WriteFailed ran h = absurd h
 audit_fails input ends volumes m count (BrokenChain n) ran h =
-    let parted = ap (λ (r : Result ScenarioValue ScenarioFault). r >>= scripts_of) ran.read ∙ ran.parted in (
+    let parted : scripts_in input ≡ Ok ran.scripts = rw ran.read ran.parted in (
       tt,
       (
         differing input ran.scenario.layout ran.scripts ends volumes m count parted ran.worked h.1,
         inr (tt, refuted input ends volumes m count (BrokenChain n) ran h),
       ),
     )
+audit_fails input ends volumes m count _ ran h = absurd h
 
 -- ---- the text of an audit
 
 pub audit_text : (start grown text : List ℕ) (count : ℕ) → start ≡ [] → grown ≡ start ++ records_line count
     → text ≡ grown ++ (codes "audit ok" ++ newline) → text ≡ records_line count ++ codes "audit ok" ++ newline
 audit_text start grown text count none more last =
-    last
-    ∙ ap (λ (xs : List ℕ). xs ++ (codes "audit ok" ++ newline))
-    (more ∙ ap (λ (xs : List ℕ). xs ++ records_line count) none)
-    ∙ sym (append_assoc (records_line count) (codes "audit ok") newline)
+    rw (last, more, none) (sym (append_assoc (records_line count) (codes "audit ok") newline))

@@ -40,9 +40,7 @@ called_more start now next line written grown new m mid after so_far one ran = (
   one_passed start now next so_far.0 line so_far.1 one,
   record {
     text = so_far.2.text ++ ran.text;
-    grown =
-        ran.grown ∙ ap (λ (l : List ℕ). l ++ ran.text) so_far.2.grown
-        ∙ append_assoc written so_far.2.text ran.text;
+    grown = rw (ran.grown, so_far.2.grown) (append_assoc written so_far.2.text ran.text);
     is = one_more so_far.0 line m mid after so_far.2.text ran.text so_far.2.is ran.is;
   },
 )
@@ -60,8 +58,7 @@ called_text input start new layout names first m image old out text opened laid 
     let same : layout ≡ new.layout = laid ∙ sym (ran.1.2.2 ∙ ran.1.1.3) in
     ran_text input (record { layout = new.layout; names = new.names.keys; lines = lines }) first m
     lines image old out text (with_all input start new lines lines opened ran.1 refl)
-    (boot ∙ ap booted same) refl none ran.2 pictured
-    (e ∙ ap (λ (ns : List (List ℕ)). out ++ state_text image.layout ns image.memory) named)
+    (boot ∙ ap booted same) refl none ran.2 pictured (rw named at e)
 
 -- what is a text for every input that was opened so, is one for this input
 pub text_of_opened : {E : Type 0} (input : List ℕ) (calls : Calls) (r : Result (Option (String Global)) E)

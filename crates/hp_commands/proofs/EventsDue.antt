@@ -1,5 +1,5 @@
 -- An event's line: the state after it, and when its text is the one that is due.
-use Rattle.std.proofs.Common.{◌≡◌, ℕ, Bool, true, false, List, ◌++◌, codes, if◌then◌else◌, refl, sym, subst, inl, inr}
+use Rattle.std.proofs.Common.{◌≡◌, ℕ, Bool, true, false, List, ◌++◌, codes, if◌then◌else◌, refl, inl, inr}
 use Rattle.hp_units.specs.History.{value_of}
 use Rattle.hp_units.specs.declared.events.Event.{Event}
 use Rattle.hp_units.specs.declared.replies.CallFault.TheVariants.{OutOfMemory}
@@ -27,19 +27,14 @@ event_next m cpu event h = choice_is (is_full m) m (next_record m cpu event) h
 
 pub event_is : (m : MachineValue) (cpu : ℕ) (event : Event) (text : List ℕ) (new : MachineValue)
     → IsUpToDate m → WritesEvent m cpu event text new → IsUpToDate new
-event_is m cpu event text new h (inl w) = subst IsUpToDate (sym w.1) (event_next m cpu event h)
-event_is m cpu event text new h (inr w) = subst IsUpToDate (sym w.2) h
+event_is m cpu event text new h (inl w) = rw w.1 (event_next m cpu event h)
+event_is m cpu event text new h (inr w) = rw w.2 h
 
--- out of memory makes a text that isn't whole
-pub out_of_memory_is_not_whole : (b : List ℕ) → IsWhole (unrecorded_line OutOfMemory ++ b) → ⊥
-out_of_memory_is_not_whole b whole =
-    not_whole (unrecorded_line OutOfMemory ++ b) (codes "-: fault ") b refl whole
-
--- in a whole text an event wrote what is due
+-- in a whole text an event wrote what is due: a text that says out of memory isn't whole
 pub event_due : (m : MachineValue) (cpu : ℕ) (event : Event) (text : List ℕ) (new : MachineValue)
     (rest : List ℕ)
     → WritesEvent m cpu event text new → IsWhole (text ++ rest)
     → (text ≡ event_text m cpu event) × (new ≡ machine_after_event m cpu event)
 event_due m cpu event text new rest (inl w) whole = w
 event_due m cpu event text new rest (inr w) whole =
-    absurd (out_of_memory_is_not_whole rest (subst (λ (l : List ℕ). IsWhole (l ++ rest)) w.1 whole))
+    absurd (not_whole (unrecorded_line OutOfMemory ++ rest) (codes "-: fault ") rest refl (rw w.1 at whole))

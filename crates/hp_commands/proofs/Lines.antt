@@ -1,5 +1,5 @@
 -- Lines that are run one after another, and when their text is the one that is due.
-use Rattle.std.proofs.Common.{◌≡◌, ℕ, ◌+◌, ◌<◌, List, [], ◌∷◌, ◌++◌, length, get_or, take, refl, sym, ap, subst, ◌∙◌, append_assoc, append-nil}
+use Rattle.std.proofs.Common.{◌≡◌, ℕ, ◌+◌, ◌<◌, List, [], ◌∷◌, ◌++◌, length, get_or, take, refl, sym, append_assoc, append-nil}
 use Rattle.std.proofs.lemmas.List.{take_more}
 use Rattle.hp_units.specs.LayoutParts.{LayoutParts}
 use Rattle.hp_units.specs.History.{value_of, net_of, run}
@@ -29,8 +29,8 @@ one_more [] line m mid new text written ran w = (
   written,
   new,
   [],
-  subst (λ (k : MachineValue). WritesLine k line written new) ran.1 w,
-  ap (λ (l : List ℕ). l ++ written) ran.0 ∙ sym (append-nil written),
+  rw ran.1 at w,
+  rw (ran.0, append-nil written),
   (refl, refl),
 )
 one_more (x ∷ xs) line m mid new text written ran w = (
@@ -38,8 +38,7 @@ one_more (x ∷ xs) line m mid new text written ran w = (
   ran.1,
   ran.2 ++ written,
   ran.3,
-  ap (λ (l : List ℕ). l ++ written) ran.4
-      ∙ append_assoc ran.0 ran.2 written,
+  rw ran.4 (append_assoc ran.0 ran.2 written),
   one_more xs line ran.1 mid new ran.2 written ran.5 w,
 )
 
@@ -50,10 +49,9 @@ pub lines_more : (xs : List Line) (i : ℕ) (line : Line) (old now new : List �
     → GrowsBy old new (λ (text : List ℕ). WritesLines m (take (i + 1) xs) text next)
 lines_more xs i line old now new m mid next lt so_far is_at one = record {
   text = so_far.text ++ one.text;
-  grown = one.grown ∙ ap (λ (l : List ℕ). l ++ one.text) so_far.grown ∙ append_assoc old so_far.text one.text;
+  grown = rw (one.grown, so_far.grown) (append_assoc old so_far.text one.text);
   is =
-      subst (λ (l : List Line). WritesLines m l (so_far.text ++ one.text) next)
-      (sym (take_more xs i line lt ∙ ap (λ (x : Line). take i xs ++ x ∷ []) (sym is_at)))
+      rw (take_more xs i line lt, ← is_at)
       (one_more (take i xs) line m mid next so_far.text one.text so_far.is one.is);
 }
 
@@ -65,12 +63,7 @@ pub image_left : (old new : List ℕ) (start m mid : MachineValue) (lines taken 
 image_left old new start m mid lines taken image begun same ran is = record {
   text = ran.text;
   grown = ran.grown;
-  is = (
-    mid,
-    subst (λ (k : MachineValue). WritesLines k lines ran.text mid) begun
-        (subst (λ (xs : List Line). WritesLines m xs ran.text mid) same ran.is),
-    is,
-  );
+  is = (mid, rw (begun, same) at ran.is, is);
 }
 
 -- ---- the state is that of the history
@@ -86,14 +79,14 @@ asked_is : (m : MachineValue) (cpu : ℕ) (w : asks.Meaning) (text : List ℕ) (
     → WritesAsked m cpu w text new → IsUpToDate new
 asked_is m cpu (asks.event event) text new h ran = event_is m cpu event text new h ran
 asked_is m cpu (asks.plan items turns) text new h ran = plan_is m cpu turns items text new h ran
-asked_is m cpu (asks.not_taken fault) text new h ran = subst IsUpToDate (sym ran.1) h
-asked_is m cpu (asks.cat path) text new h ran = subst IsUpToDate (sym ran.1) h
+asked_is m cpu (asks.not_taken fault) text new h ran = rw ran.1 h
+asked_is m cpu (asks.cat path) text new h ran = rw ran.1 h
 asked_is m cpu asks.seal text new h ran = seal_is m text new ran
 
 lines_are : (xs : List Line) (m new : MachineValue) (text : List ℕ) → IsUpToDate m → WritesLines m xs text new
     → IsUpToDate new
 unfolding WritesLines
-lines_are [] m new text h ran = subst IsUpToDate (sym ran.1) h
+lines_are [] m new text h ran = rw ran.1 h
 lines_are (x ∷ xs) m new text h ran =
     lines_are xs ran.1 new ran.2 (asked_is m x.cpu (asks.asked_by x.work) ran.0 ran.1 h ran.3) ran.5
 
@@ -113,11 +106,7 @@ due_more : (x : Line) (xs : List Line) (m next new : MachineValue) (text written
     → text ≡ written ++ rest → written ≡ line_text m x → next ≡ machine_after m x → AreDue next xs rest new
     → AreDue m (x ∷ xs) text new
 unfolding lines_text machine_after_lines
-due_more x xs m next new text written rest e w n due = (
-  e ∙ ap (λ (l : List ℕ). l ++ rest) w ∙ ap (λ (l : List ℕ). line_text m x ++ l) due.0
-      ∙ ap (λ (k : MachineValue). line_text m x ++ lines_text k xs) n,
-  due.1 ∙ ap (λ (k : MachineValue). machine_after_lines k xs) n,
-)
+due_more x xs m next new text written rest e w n due = (rw (e, w, due.0, n), rw (due.1, n))
 
 -- in a whole text a line wrote what is due
 asked_due : (m : MachineValue) (cpu : ℕ) (w : asks.Meaning) (text : List ℕ) (new : MachineValue)
@@ -147,4 +136,4 @@ lines_due [] m new text end ran whole = ran
 lines_due (x ∷ xs) m new text end ran whole =
     line_due x xs m ran.1 new text ran.0 ran.2 end ran.3 ran.4
     (lines_due xs ran.1 new ran.2 end ran.5)
-    (subst IsWhole (ap (λ (l : List ℕ). l ++ end) ran.4 ∙ append_assoc ran.0 ran.2 end) whole)
+    (rw (ran.4, append_assoc ran.0 ran.2 end) at whole)

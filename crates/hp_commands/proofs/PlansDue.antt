@@ -1,9 +1,7 @@
 -- The run of a plan's driver: the state after it, and when it is the one that is due.
-use Rattle.std.proofs.Common.{◌≡◌, ℕ, zero, suc, ◌+◌, ◌≤◌, Bool, true, false, ◌||◌, List, [], ◌∷◌, ◌++◌, length, codes, Option, Some, None, nat_le, refl, sym, ap, subst, ◌∙◌, arith, append_assoc, append-nil, le-leb}
+use Rattle.std.proofs.Common.{◌≡◌, ℕ, zero, suc, ◌+◌, ◌≤◌, Bool, true, false, List, [], ◌∷◌, ◌++◌, length, codes, Option, Some, None, refl, sym, ap, ◌∙◌, arith, append_assoc, append-nil, le-leb}
 use Rattle.std.proofs.lemmas.List.{length_push}
-use Rattle.std.specs.Prelude.{◌-◌, unwrap_or, ⊤}
-use Rattle.hp_units.specs.LayoutParts.{LayoutParts}
-use Rattle.hp_units.specs.Memory.{Memory}
+use Rattle.std.specs.Prelude.{◌-◌, ⊤}
 use Rattle.hp_units.specs.Driver.{AllNext, Ends, next_event, operation_of}
 use Rattle.hp_units.specs.History.{value_of}
 use Rattle.hp_units.specs.Receipts.{receipt_of}
@@ -12,11 +10,10 @@ use Rattle.hp_units.specs.declared.plans.Item.{Item}
 use Rattle.hp_units.specs.declared.replies.CallFault.{CallFault}
 use Rattle.hp_units.specs.declared.replies.CallFault.TheVariants.{HistoryFull, OutOfMemory}
 use Rattle.hp_units.specs.declared.replies.OpEnd.{OpEnd}
-use Rattle.hp_units.specs.declared.replies.OpEnd.TheVariants.{Undone, Left}
+use Rattle.hp_units.specs.declared.replies.OpEnd.TheVariants.{Left}
 use Rattle.hp_units.specs.declared.replies.Receipt.{Receipt}
 use Rattle.hp_units.specs.declared.replies.Record.{Record}
-use Rattle.hp_units.specs.declared.replies.Reply.{Reply}
-use Rattle.hp_machine.specs.Machine.{IsCalled, MachineValue, is_full, last_serial, record_of}
+use Rattle.hp_machine.specs.Machine.{IsCalled, MachineValue, is_full, record_of}
 use Rattle.hp_machine.specs.MachinePorts.{AreCalls, HasCause, IsPlanRun}
 use Rattle.hp_commands.specs.Events.{next_record, with_record}
 use Rattle.hp_text.specs.Plans.{operation_text, plan_line}
@@ -31,13 +28,11 @@ use Rattle.hp_commands.proofs.Whole.{not_whole}
 -- one call, and calls one after another
 called_is : (m next : MachineValue) (cpu : ℕ) (event : Event) (r : Receipt) → IsCalled m cpu event r next
     → IsUpToDate next
-called_is m next cpu event r called =
-    called.state ∙ ap (λ (l : LayoutParts). value_of l m.base next.history) (sym called.layout)
-    ∙ ap (λ (base : Memory). value_of next.layout base next.history) (sym called.base)
+called_is m next cpu event r called = rw (called.layout, called.base) called.state
 
 calls_are : (rs : List Receipt) (m new : MachineValue) (cpu : ℕ) → IsUpToDate m → AreCalls m cpu rs new
     → IsUpToDate new
-calls_are [] m new cpu h calls = subst IsUpToDate (sym calls) h
+calls_are [] m new cpu h calls = rw calls h
 calls_are (r ∷ rs) m new cpu h calls =
     calls_are rs calls.0 new cpu (called_is m calls.0 cpu r.event r calls.2) calls.3
 
@@ -47,30 +42,17 @@ plan_is m cpu turns plan text new h w = calls_are w.1.receipts m new cpu h w.1.c
 
 -- ---- a call is the one that is due
 
-abbrev receipt_with : ℕ → Event → Reply → Receipt
-receipt_with serial event reply = record { serial = serial; event = event; reply = reply }
-
 -- the receipt is that of the next record
 called_receipt : (m next : MachineValue) (cpu : ℕ) (r : Receipt) → IsCalled m cpu r.event r next
     → r ≡ receipt_of (next_record m cpu r.event)
-called_receipt m next cpu r called =
-    ap (λ (n : ℕ). receipt_with n r.event r.reply) called.serial
-    ∙ ap (λ (y : Reply). receipt_with (last_serial m + 1) r.event y) called.reply
-
-abbrev machine_with : LayoutParts → ℕ → Memory → List Record → Memory → MachineValue
-machine_with layout before base history state =
-    record { layout = layout; before = before; base = base; history = history; state = state }
+called_receipt m next cpu r called = rw (← called.serial, ← called.reply)
 
 -- and the machine is the one with that record
 record_is : (m next : MachineValue) (q : Record) → next.layout ≡ m.layout → next.before ≡ m.before
     → next.base ≡ m.base → next.history ≡ m.history ++ q ∷ []
     → next.state ≡ value_of m.layout m.base next.history → next ≡ with_record m q
 record_is m next q layout before base history state =
-    ap (λ (x : LayoutParts). machine_with x next.before next.base next.history next.state) layout
-    ∙ ap (λ (x : ℕ). machine_with m.layout x next.base next.history next.state) before
-    ∙ ap (λ (x : Memory). machine_with m.layout m.before x next.history next.state) base
-    ∙ ap (λ (x : Memory). machine_with m.layout m.before m.base next.history x) state
-    ∙ ap (λ (x : List Record). machine_with m.layout m.before m.base x (value_of m.layout m.base x)) history
+    rw (← history, ← state, ← layout, ← before, ← base)
 
 called_machine : (m next : MachineValue) (cpu : ℕ) (r : Receipt) → IsCalled m cpu r.event r next
     → next ≡ with_record m (next_record m cpu r.event)
@@ -110,11 +92,9 @@ finished : (turns : ℕ) (plan : List Item) (earlier : List Receipt) (m new : Ma
     → going_on earlier m more (is_full m) (next_event m.layout.cpus turns plan earlier)
     ≡ run_with (earlier ++ []) new fault
 finished turns plan earlier m new more fault end same ends cause given =
-    stops earlier m more (is_full m) (next_event m.layout.cpus turns plan earlier) fault end
-    (subst (λ (l : List Receipt). Ends l (next_event m.layout.cpus turns plan l) fault end)
-    (append-nil earlier) ends) refl (subst (HasCause fault) same cause) given
-    ∙ ap (λ (l : List Receipt). run_with l m fault) (sym (append-nil earlier))
-    ∙ ap (λ (k : MachineValue). run_with (earlier ++ []) k fault) (sym same)
+    rw (same, append-nil earlier)
+    (stops earlier m more (is_full m) (next_event m.layout.cpus turns plan earlier) fault end
+    (rw (append-nil earlier) at ends) refl (rw same at cause) given)
 
 -- where an event is next and there is room, it goes on
 goes_on : (receipts : List Receipt) (m : MachineValue) (more : Event → PlanRun) (full : Bool)
@@ -126,15 +106,10 @@ goes_on receipts m more false None event room is = absurd cc
 goes_on receipts m more false (Some e) event room is = let same : e ≡ event = cc in ap more same
 
 -- a history at its limit has no room
-full_first : (a b : Bool) → a ≡ true → (a || b) ≡ false → ⊥
-full_first true b is room = absurd cc
-full_first false b is room = absurd cc
-
 no_room : (m : MachineValue) → m.layout.history ≤ zero + length m.history → is_full m ≡ false → ⊥
 no_room m fits room =
     let within : m.layout.history ≤ length m.history = omega (arith, fits) in
-    full_first (nat_le m.layout.history (length m.history))
-    (nat_le 18446744073709551615 (m.before + length m.history)) (le-leb _ _ within) room
+    let bad : true ≡ false = rw (le-leb m.layout.history (length m.history) within) at room in absurd cc
 
 one_record : (limit room : ℕ) (history : List Record) (q : Record) → limit ≤ suc room + length history
     → limit ≤ room + length (history ++ q ∷ [])
@@ -170,9 +145,7 @@ calls_due (r ∷ rs) (suc room) turns plan cpu earlier m new fault end fits call
     ∙ calls_due rs room turns plan cpu (earlier ++ receipt_of (next_record m cpu r.event) ∷ [])
     (with_record m (next_record m cpu r.event)) new fault end
     (one_record m.layout.history room m.history (next_record m cpu r.event) fits)
-    (subst (λ (k : MachineValue). AreCalls k cpu rs new) (called_machine m calls.0 cpu r calls.2) calls.3)
-    (subst (λ (x : Receipt). AllNext m.layout.cpus turns plan (earlier ++ x ∷ []) rs) told events.1)
-    (subst (λ (l : List Receipt). Ends l (next_event m.layout.cpus turns plan l) fault end) joined ends) cause
+    (rw (called_machine m calls.0 cpu r calls.2) at calls.3) (rw told at events.1) (rw joined at ends) cause
     given
     ∙ ap (λ (l : List Receipt). run_with l new fault) (sym joined)
 
@@ -191,7 +164,7 @@ run_due m cpu turns plan end new ran given =
 -- the end of a run is the one that its receipts and its fault make
 end_is : (receipts : List Receipt) (next : Option Event) (fault : Option CallFault) (end : OpEnd)
     → Ends receipts next fault end → end ≡ end_with fault receipts
-end_is receipts None None end ends = sym (ap (λ (o : Option OpEnd). unwrap_or o Undone) ends)
+end_is receipts None None end ends = rw ends
 end_is receipts None (Some fault) end ends = absurd ends
 end_is receipts (Some event) None end ends = absurd ends
 end_is receipts (Some event) (Some fault) end ends = ends
@@ -212,8 +185,7 @@ not_out_of_memory receipts next None end rest ends whole = tt
 not_out_of_memory receipts next (Some HistoryFull) end rest ends whole = tt
 not_out_of_memory receipts None (Some OutOfMemory) end rest ends whole = absurd ends
 not_out_of_memory receipts (Some event) (Some OutOfMemory) end rest ends whole =
-    left_is_not_whole (operation_of receipts) rest
-    (subst (λ (e : OpEnd). IsWhole (plan_line e ++ rest)) ends whole)
+    left_is_not_whole (operation_of receipts) rest (rw ends at whole)
 
 -- in a whole text a plan wrote what is due
 pub plan_due : (m : MachineValue) (cpu turns : ℕ) (plan : List Item) (text : List ℕ) (new : MachineValue)
@@ -223,11 +195,9 @@ pub plan_due : (m : MachineValue) (cpu turns : ℕ) (plan : List Item) (text : L
 plan_due m cpu turns plan text new rest w whole =
     let given =
     not_out_of_memory w.1.receipts (next_event m.layout.cpus turns plan w.1.receipts) w.1.fault w.0 rest
-    w.1.run.ends (subst (λ (l : List ℕ). IsWhole (l ++ rest)) w.2 whole) in
+    w.1.run.ends (rw w.2 at whole) in
     let due : plan_run m cpu turns plan ≡ run_with w.1.receipts new w.1.fault =
     run_due m cpu turns plan w.0 new w.1 given in
     let ended : w.0 ≡ end_with w.1.fault w.1.receipts =
-    end_is w.1.receipts (next_event m.layout.cpus turns plan w.1.receipts) w.1.fault w.0 w.1.run.ends in (
-      w.2 ∙ ap plan_line (ended ∙ ap (λ (p : PlanRun). end_with p.fault p.receipts) (sym due)),
-      ap (λ (p : PlanRun). p.machine) (sym due),
-    )
+    end_is w.1.receipts (next_event m.layout.cpus turns plan w.1.receipts) w.1.fault w.0 w.1.run.ends in
+    (rw (w.2, due) (ap plan_line ended), rw due)

@@ -1,5 +1,5 @@
 -- From the parts of a run to the whole: what was read, how its lines were parted and worked off, and why not.
-use Rattle.std.proofs.Common.{◌≡◌, ℕ, ◌<◌, List, length, Option, Some, None, Result, Ok, sym, ap, subst, ◌∙◌, arith, inl, inr}
+use Rattle.std.proofs.Common.{◌≡◌, ℕ, ◌<◌, List, length, Option, Some, None, Ok, sym, ◌∙◌, arith, inl, inr}
 use Rattle.std.specs.Prelude.{◌≢◌, ◌⊎◌}
 use Rattle.std.proofs.lemmas.List.FromFn.{length-map-range_with_len}
 use Rattle.std.proofs.lemmas.Option.{slice_get_within}
@@ -11,7 +11,7 @@ use Rattle.hp_history.specs.declared.volumes.Volume.{Volume}
 use Rattle.hp_scenario.specs.declared.fault.ScenarioFault.{ScenarioFault}
 use Rattle.hp_scenario.specs.declared.fault.ScenarioFault.TheVariants as scenario
 use Rattle.hp_scenario.specs.declared.lines.Line.{Line}
-use Rattle.hp_scenario.specs.Gives.{◌>>=◌, Fails}
+use Rattle.hp_scenario.specs.Gives.{Fails}
 use Rattle.hp_scenario.specs.Scenario.{ScenarioValue, scenario_in}
 use Rattle.hp_scenario.specs.Scripts.{scripts_of}
 use Rattle.hp_shared.specs.declared.closing.CloseFault.{CloseFault}
@@ -28,7 +28,7 @@ use Rattle.hp_workers.proofs.Fulls.{reach_where_full}
 use Rattle.hp_commands.specs.Faults.{IsFaultOf, IsUnfinished, IsWorkFault, close_fault_from, fault_from, run_fault_from}
 use Rattle.hp_commands.specs.Runs.{IsRunOf, IsWorkedOff}
 use Rattle.hp_commands.specs.declared.fault.ProgramFault.{ProgramFault}
-use Rattle.hp_commands.specs.declared.fault.ProgramFault.TheVariants.{ReadFailed, TooLong, NotJson, BadShape, Layout, BadLine, NotForRun, OutOfMemory, NotStarted, SeatMissing, Mismatch, WrongReply, WrongSerial, AuditDiffers, WriteFailed, BrokenChain}
+use Rattle.hp_commands.specs.declared.fault.ProgramFault.TheVariants.{OutOfMemory, NotStarted, Mismatch, BrokenChain}
 use Rattle.hp_commands.specs.declared.commands.Command.TheVariants.{Run}
 use Rattle.hp_commands.proofs.Seated.{has_each, not_first, seals_counted}
 use Rattle.hp_commands.proofs.Unfit.{only_not_for_run}
@@ -38,24 +38,16 @@ use Rattle.hp_commands.proofs.Unfit.{only_not_for_run}
 -- the bytes are no scenario
 pub unread : (input : List ℕ) (fault : ScenarioFault) → Fails fault (scenario_in input)
     → IsFaultOf Run (Some input) ⊥ ⊥ (fault_from fault)
-unread input scenario.NotJson h = h
-unread input scenario.BadShape h = h
-unread input (scenario.Layout fault) h = h
-unread input (scenario.BadLine line) h = h
-unread input (scenario.NotForRun line) h =
-    (tt, ap (λ (r : Result ScenarioValue ScenarioFault). r >>= scripts_of) h)
+unread input (scenario.NotForRun line) h = (tt, rw h)
 unread input scenario.OutOfMemory h = tt
+unread input _ h = h
 
 -- a line of theirs is not for run
 pub unfit : (input : List ℕ) (s : ScenarioValue) (fault : ScenarioFault) → scenario_in input ≡ Ok s
     → Fails fault (scripts_of s) → IsFaultOf Run (Some input) ⊥ ⊥ (fault_from fault)
-unfit input s scenario.NotJson read h = absurd (only_not_for_run s scenario.NotJson h)
-unfit input s scenario.BadShape read h = absurd (only_not_for_run s scenario.BadShape h)
-unfit input s (scenario.Layout fault) read h = absurd (only_not_for_run s (scenario.Layout fault) h)
-unfit input s (scenario.BadLine line) read h = absurd (only_not_for_run s (scenario.BadLine line) h)
-unfit input s (scenario.NotForRun line) read h =
-    (tt, ap (λ (r : Result ScenarioValue ScenarioFault). r >>= scripts_of) read ∙ h)
+unfit input s (scenario.NotForRun line) read h = (tt, rw read h)
 unfit input s scenario.OutOfMemory read h = tt
+unfit input s fault read h = absurd (only_not_for_run s fault h)
 
 -- the worker that was not started is of another processor than the first
 other_than_first : (l : LayoutParts) (scripts : List (List Line)) (news : List SeatValue)
@@ -74,9 +66,7 @@ pub unstarted : (l : LayoutParts) (olds : List SeatValue) (scripts : List (List 
     → olds ≡ first_seats l.cpus → ended ≡ Some fault → length scripts ≡ l.cpus
     → IsRunEnd l olds scripts news volumes ends ended → IsWorkFault l scripts (run_fault_from fault)
 unstarted l olds scripts news volumes ends ended (running.NotStarted cpu) first is count run =
-    let here : IsRunEnd l (first_seats l.cpus) scripts news volumes ends (Some (running.NotStarted cpu)) =
-    subst (λ (f : Option RunFault). IsRunEnd l (first_seats l.cpus) scripts news volumes ends f) is
-    (subst (λ (xs : List SeatValue). IsRunEnd l xs scripts news volumes ends ended) first run) in
+    let here = rw (first, is) at run in
     let other = other_than_first l scripts news volumes ends cpu count here in
     (other.0, other.1, record { seats = news; volumes = volumes; ends = ends; run = here })
 unstarted l olds scripts news volumes ends ended running.OutOfMemory first is count run = tt
@@ -122,34 +112,14 @@ unfinished input s scripts fault read parted h =
 pub work_fails : (input : List ℕ) (s : ScenarioValue) (scripts : List (List Line)) (fault : ProgramFault)
     → scenario_in input ≡ Ok s → scripts_of s ≡ Ok scripts → IsWorkFault s.layout scripts fault
     → IsFaultOf Run (Some input) ⊥ ⊥ fault
-work_fails input s scripts ReadFailed read parted h = absurd h
-work_fails input s scripts TooLong read parted h = absurd h
-work_fails input s scripts NotJson read parted h = absurd h
-work_fails input s scripts BadShape read parted h = absurd h
-work_fails input s scripts (Layout fault) read parted h = absurd h
-work_fails input s scripts (BadLine line) read parted h = absurd h
-work_fails input s scripts (NotForRun line) read parted h = absurd h
 work_fails input s scripts OutOfMemory read parted h = tt
 work_fails input s scripts (NotStarted cpu) read parted h =
     (tt, unfinished input s scripts (NotStarted cpu) read parted h)
-work_fails input s scripts SeatMissing read parted h = absurd h
 work_fails input s scripts (Mismatch serial) read parted h =
     (tt, unfinished input s scripts (Mismatch serial) read parted h)
-work_fails input s scripts (WrongReply serial) read parted h = absurd h
-work_fails input s scripts (WrongSerial at) read parted h = absurd h
-work_fails input s scripts AuditDiffers read parted h = absurd h
-work_fails input s scripts WriteFailed read parted h = absurd h
-work_fails input s scripts (BrokenChain at) read parted h = (
-  tt,
-  (
-    (
-      scripts,
-      ap (λ (r : Result ScenarioValue ScenarioFault). r >>= scripts_of) read ∙ parted,
-      h.0,
-    ),
-    inl (unfinished input s scripts (BrokenChain at) read parted h),
-  ),
-)
+work_fails input s scripts (BrokenChain at) read parted h =
+    (tt, ((scripts, rw read parted, h.0), inl (unfinished input s scripts (BrokenChain at) read parted h)))
+work_fails input s scripts _ read parted h = absurd h
 
 -- in the layout of the machine that was booted
 pub work_fails_at : (input : List ℕ) (s : ScenarioValue) (l : LayoutParts) (scripts : List (List Line))
@@ -157,8 +127,7 @@ pub work_fails_at : (input : List ℕ) (s : ScenarioValue) (l : LayoutParts) (sc
     → l ≡ s.layout → scenario_in input ≡ Ok s → scripts_of s ≡ Ok scripts → IsWorkFault l scripts fault
     → IsFaultOf Run (Some input) ⊥ ⊥ fault
 work_fails_at input s l scripts fault same read parted h =
-    work_fails input s scripts fault read parted
-    (subst (λ (k : LayoutParts). IsWorkFault k scripts fault) same h)
+    work_fails input s scripts fault read parted (rw same at h)
 
 -- ---- the run
 
@@ -170,8 +139,7 @@ pub all_ran : (l : LayoutParts) (olds : List SeatValue) (scripts : List (List Li
 all_ran l olds scripts news volumes ends fault first none (inl unstarted) =
     let bad : None ≡ Some running.OutOfMemory = sym none ∙ unstarted.fault_is in absurd cc
 all_ran l olds scripts news volumes ends fault first none (inr all) =
-    subst (λ (f : Option RunFault). AreGathered l (first_seats l.cpus) scripts news volumes ends f) none
-    (subst (λ (xs : List SeatValue). AreGathered l xs scripts news volumes ends fault) first all)
+    rw (first, none) at all
 
 pub worked_off : (l : LayoutParts) (scripts : List (List Line)) (seats : List SeatValue)
     (volumes back : List Volume) (ends : List (List LineEnd)) (m : MachineValue) (count : ℕ)
@@ -179,8 +147,7 @@ pub worked_off : (l : LayoutParts) (scripts : List (List Line)) (seats : List Se
     → IsClosed l seats volumes m count → (m.before ≡ 0 → m.base ≡ boot_memory m.layout)
     → IsWorkedOff l scripts ends back m count
 worked_off l scripts seats volumes back ends m count all same closed boots =
-    subst (λ (vs : List Volume). IsWorkedOff l scripts ends vs m count) (sym same)
-    (record {
+    rw same (record {
       seats = seats;
       handed = all.handed;
       workers = all.workers;

@@ -1,5 +1,5 @@
 -- The seats after a run: one for each processor still.
-use Rattle.std.proofs.Common.{◌≡◌, ℕ, zero, suc, ◌<◌, List, [], ◌∷◌, length, Option, Some, None, slice_get, get_or, sym, ap, subst, ◌∙◌, arith}
+use Rattle.std.proofs.Common.{◌≡◌, ℕ, zero, suc, ◌<◌, List, [], ◌∷◌, length, Option, Some, None, slice_get, get_or, sym, ap, ◌∙◌, arith}
 use Rattle.std.proofs.lemmas.List.FromFn.{get_or-map-range_with_len, length-map-range_with_len}
 use Rattle.std.proofs.lemmas.List.Sorted.{sum_by-IsPermutation}
 use Rattle.std.proofs.lemmas.Option.{slice_get-get_or, slice_get_within}
@@ -15,7 +15,7 @@ use Rattle.hp_shared.proofs.Comparisons.{same_item}
 use Rattle.hp_workers.specs.declared.fault.RunFault.{RunFault}
 use Rattle.hp_workers.specs.declared.fault.RunFault.TheVariants.{NotStarted}
 use Rattle.hp_workers.specs.declared.lines.LineEnd.{LineEnd}
-use Rattle.hp_workers.specs.Workers.{AreGathered, AreWorkers, HasEnded}
+use Rattle.hp_workers.specs.Workers.{AreGathered, AreWorkers}
 use Rattle.hp_workers.proofs.HandedOut.{workers_count}
 use Rattle.hp_workers.proofs.LineRuns.{worked_cpu}
 
@@ -51,9 +51,8 @@ seat_is_own l scripts seats handed ends fault count workers place seat here =
     record {
       inside = inside;
       own =
-          sym (ap (λ (s : SeatValue). s.cpu) same)
-          ∙ worked_cpu l (first_seat place) (get_or scripts place []) found.new found.handed found.own
-          found.worker.worked;
+          rw (← same) (worked_cpu l (first_seat place) (get_or scripts place []) found.new found.handed
+          found.own found.worker.worked);
     }
 
 pub has_each : (l : LayoutParts) (scripts : List (List Line)) (seats : List SeatValue) (handed : List Volume)
@@ -97,8 +96,7 @@ not_first l scripts seats handed ends cpu count workers =
     let found = workers.each at.0 (first_seat at.0) lines (first_seat_at l.cpus at.0 inside) script in
     let same : found.fault ≡ Some (NotStarted cpu) =
     same_item (slice_get workers.faults at.0) found.fault (Some (NotStarted cpu)) found.why at.1 in
-    let named : (cpu ≡ at.0) × (found.own ≡ []) =
-    subst (HasEnded at.0 lines found.own) same found.worker.ended in (
+    let named : (cpu ≡ at.0) × (found.own ≡ []) = rw same at found.worker.ended in (
       omega (arith, named.0, past at.0 at.1),
       omega (arith, named.0, inside),
     )

@@ -1,5 +1,5 @@
 -- Reading a scenario answers no fault that is one of running it, and parting its lines no other.
-use Rattle.std.proofs.Common.{◌≡◌, ℕ, ◌+◌, List, [], ◌∷◌, Option, Some, None, Result, Ok, Err, subst}
+use Rattle.std.proofs.Common.{◌≡◌, ℕ, ◌+◌, List, [], ◌∷◌, Option, Some, None, Result, Ok, Err}
 use Rattle.std.specs.Prelude.{⊤}
 use Rattle.hp_units.specs.LayoutParts.{LayoutParts, layout_fault}
 use Rattle.hp_units.specs.declared.layouts.LayoutFault.{LayoutFault}
@@ -59,8 +59,7 @@ scenario_reads input =
     bind_reads (or_fault BadShape (form_of d)) scenario_with (or_reads BadShape (form_of d) tt) form_reads)
 
 pub never_not_for_run : (input : List ℕ) (line : ℕ) → scenario_in input ≡ Err (NotForRun line) → ⊥
-never_not_for_run input line e =
-    subst (λ (r : Result ScenarioValue ScenarioFault). Reads r) e (scenario_reads input)
+never_not_for_run input line e = rw e at (scenario_reads input)
 
 -- ---- parting
 
@@ -72,7 +71,7 @@ IsUnfit _ = ⊥
 unfit_is : (s : ScenarioValue) (at : Option ℕ) (fault : ScenarioFault) → scripts_unless s at ≡ Err fault
     → IsUnfit fault
 unfit_is s None fault e = absurd cc
-unfit_is s (Some at) fault e = let same : NotForRun (at + 1) ≡ fault = cc in subst IsUnfit same tt
+unfit_is s (Some at) fault e = let same : NotForRun (at + 1) ≡ fault = cc in rw (← same) tt
 
 pub only_not_for_run : (s : ScenarioValue) (fault : ScenarioFault) → scripts_of s ≡ Err fault → IsUnfit fault
 unfolding scripts_of

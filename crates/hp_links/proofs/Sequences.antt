@@ -1,6 +1,6 @@
 -- What the words of the contracts mean for a list that is split at a frame.
-use Rattle.std.proofs.Common.{ℕ, ◌≡◌, ◌≢◌, ◌<◌, ◌≤◌, inl, inr, eqb, ltb, List, [], ◌∷◌, ◌++◌, Option, None, Some, refl, sym, ◌∙◌, ap, subst}
-use Rattle.std.proofs.lemmas.Bool.{cases_eq, eq-eqb, ne_eqb, lt-ltb, le-ltb, cond-true, cond-false}
+use Rattle.std.proofs.Common.{ℕ, ◌≡◌, ◌≢◌, ◌<◌, ◌≤◌, inl, inr, List, [], ◌∷◌, ◌++◌, Option, None, Some, refl, sym, ◌∙◌, ap, subst}
+use Rattle.std.proofs.lemmas.Bool.{cases_eq, eq-eqb, ne_eqb, lt-ltb, le-ltb}
 use Rattle.std.proofs.lemmas.Option.{none-some, same_Some}
 use Rattle.hp_links.specs.LinkedLists.{first, last_from, without, predecessor_from, predecessor, successor, with_behind}
 use Rattle.hp_links.specs.Rings.{Member, Absent, Distinct, frame_at}
@@ -17,7 +17,7 @@ pub split_at : (f : ℕ) (xs : List ℕ) → Member f xs → SplitsAt f xs
 split_at f [] m = absurd m
 split_at f (x ∷ xs) m =
     elim (cases_eq x f) [
-      | inl e ↦ record { ahead = []; behind = xs; is = ap (λ (z : ℕ). z ∷ xs) e; new = tt }
+      | inl e ↦ record { ahead = []; behind = xs; is = rw e; new = tt }
       | inr ne ↦
           let s = split_at f xs (elim m [ inl e ↦ absurd (ne e) | inr n ↦ n ]) in
           record {
@@ -29,25 +29,21 @@ split_at f (x ∷ xs) m =
     ]
 
 pub frame_at-frame : (frames place : ℕ) → place < frames → frame_at frames place ≡ Some place
-frame_at-frame frames place lt = cond-true (ltb place frames) (Some place) None (lt-ltb place frames lt)
+frame_at-frame frames place lt = rw (lt-ltb place frames lt)
 
 pub frame_at-head : (frames place : ℕ) → frames ≤ place → frame_at frames place ≡ None
-frame_at-head frames place le = cond-false (ltb place frames) (Some place) None (le-ltb place frames le)
+frame_at-head frames place le = rw (le-ltb place frames le)
 
 pub without-split : (f : ℕ) (ys zs : List ℕ) → Absent f ys → without f (ys ++ f ∷ zs) ≡ ys ++ zs
-without-split f [] zs a = cond-true (eqb f f) zs (f ∷ without f zs) (eq-eqb f f refl)
-without-split f (y ∷ ys) zs a =
-    cond-false (eqb y f) (ys ++ f ∷ zs) (y ∷ without f (ys ++ f ∷ zs)) (ne_eqb y f a.0)
-    ∙ ap (λ xs. y ∷ xs) (without-split f ys zs a.1)
+without-split f [] zs a = rw (eq-eqb f f refl)
+without-split f (y ∷ ys) zs a = rw (ne_eqb y f a.0, without-split f ys zs a.1)
 
 pub predecessor-split : (frames f a : ℕ) (ys zs : List ℕ) → Absent f ys → ((x : ℕ) → Member x ys → x < frames)
     → predecessor_from (frame_at frames a) f (ys ++ f ∷ zs) ≡ frame_at frames (last_or a ys)
-predecessor-split frames f a [] zs n below =
-    cond-true (eqb f f) (frame_at frames a) (predecessor_from (Some f) f zs) (eq-eqb f f refl)
+predecessor-split frames f a [] zs n below = rw (eq-eqb f f refl)
 predecessor-split frames f a (y ∷ ys) zs n below =
-    cond-false (eqb y f) (frame_at frames a) (predecessor_from (Some y) f (ys ++ f ∷ zs)) (ne_eqb y f n.0)
-    ∙ ap (λ o. predecessor_from o f (ys ++ f ∷ zs)) (sym (frame_at-frame frames y (below y (inl refl))))
-    ∙ predecessor-split frames f y ys zs n.1 (λ x m. below x (inr m))
+    rw (ne_eqb y f n.0, ← frame_at-frame frames y (below y (inl refl)))
+    (predecessor-split frames f y ys zs n.1 (λ x m. below x (inr m)))
 
 pub first-frame : (frames head : ℕ) (xs : List ℕ) → frames ≤ head → ((x : ℕ) → Member x xs → x < frames)
     → frame_at frames (first_or head xs) ≡ first xs
@@ -59,36 +55,24 @@ pub last-frame : (frames head : ℕ) (xs : List ℕ) → ((x : ℕ) → Member x
     → frame_at frames (last_or head xs) ≡ last_from (frame_at frames head) xs
 last-frame frames head [] below = refl
 last-frame frames head (x ∷ xs) below =
-    last-frame frames x xs (λ y m. below y (inr m))
-    ∙ ap (λ (o : Option ℕ). last_from o xs) (frame_at-frame frames x (below x (inl refl)))
+    rw (last-frame frames x xs (λ y m. below y (inr m)), frame_at-frame frames x (below x (inl refl)))
 
 pub successor-split : (f : ℕ) (ys zs : List ℕ) → Absent f ys → successor f (ys ++ f ∷ zs) ≡ first zs
-successor-split f [] zs a = cond-true (eqb f f) (first zs) (successor f zs) (eq-eqb f f refl)
-successor-split f (y ∷ ys) zs a =
-    cond-false (eqb y f) (first (ys ++ f ∷ zs)) (successor f (ys ++ f ∷ zs)) (ne_eqb y f a.0)
-    ∙ successor-split f ys zs a.1
+successor-split f [] zs a = rw (eq-eqb f f refl)
+successor-split f (y ∷ ys) zs a = rw (ne_eqb y f a.0) (successor-split f ys zs a.1)
 
 pub with_behind-split : (p f : ℕ) (ys zs : List ℕ) → Absent p ys
     → with_behind (Some p) f (ys ++ p ∷ zs) ≡ ys ++ p ∷ f ∷ zs
-with_behind-split p f [] zs a =
-    cond-true (eqb p p) (p ∷ f ∷ zs) (p ∷ with_behind (Some p) f zs) (eq-eqb p p refl)
-with_behind-split p f (y ∷ ys) zs a =
-    cond-false (eqb y p) (y ∷ f ∷ (ys ++ p ∷ zs)) (y ∷ with_behind (Some p) f (ys ++ p ∷ zs)) (ne_eqb y p a.0)
-    ∙ ap (λ xs. y ∷ xs) (with_behind-split p f ys zs a.1)
+with_behind-split p f [] zs a = rw (eq-eqb p p refl)
+with_behind-split p f (y ∷ ys) zs a = rw (ne_eqb y p a.0, with_behind-split p f ys zs a.1)
 
 Member-without : (f y : ℕ) (xs : List ℕ) → Member y (without f xs) → Member y xs
 Member-without f y [] m = m
 Member-without f y (x ∷ xs) m =
     elim (cases_eq x f) [
-      | inl e ↦
-          inr (subst (λ (ys : List ℕ). Member y ys) (cond-true (eqb x f) xs (x ∷ without f xs) (eq-eqb x f e))
-          m)
+      | inl e ↦ inr (rw (eq-eqb x f e) at m)
       | inr ne ↦
-          elim (subst (λ (ys : List ℕ). Member y ys)
-          (cond-false (eqb x f) xs (x ∷ without f xs) (ne_eqb x f ne)) m) [
-            | inl e ↦ inl e
-            | inr n ↦ inr (Member-without f y xs n)
-          ]
+          elim (rw (ne_eqb x f ne) at m) [ inl e ↦ inl e | inr n ↦ inr (Member-without f y xs n) ]
     ]
 
 -- what comes before a frame stays when the frame leaves
@@ -102,21 +86,10 @@ stands_before : (f y : ℕ) (xs : List ℕ) → Member f xs
 stands_before f y [] m = absurd m
 stands_before f y (x ∷ xs) m =
     elim (cases_eq x f) [
-      | inl e ↦
-          record {
-            frame = y;
-            is = cond-true (eqb x f) (Some y) (predecessor_from (Some x) f xs) (eq-eqb x f e);
-            on = inl refl;
-          }
+      | inl e ↦ record { frame = y; is = rw (eq-eqb x f e); on = inl refl }
       | inr ne ↦
           let b = stands_before f x xs (elim m [ inl e ↦ absurd (ne e) | inr n ↦ n ]) in
-          record {
-            frame = b.frame;
-            is = cond-false (eqb x f) (Some y) (predecessor_from (Some x) f xs) (ne_eqb x f ne) ∙ b.is;
-            on =
-                inr (subst (λ (ys : List ℕ). Member b.frame ys)
-                (sym (cond-false (eqb x f) xs (x ∷ without f xs) (ne_eqb x f ne))) b.on);
-          }
+          record { frame = b.frame; is = rw (ne_eqb x f ne) b.is; on = inr (rw (ne_eqb x f ne) b.on) }
     ]
 
 pub predecessor_on : (f : ℕ) (xs : List ℕ) → Member f xs → (p : ℕ) → predecessor f xs ≡ Some p
@@ -124,17 +97,11 @@ pub predecessor_on : (f : ℕ) (xs : List ℕ) → Member f xs → (p : ℕ) →
 predecessor_on f [] m p is = absurd m
 predecessor_on f (x ∷ xs) m p is =
     elim (cases_eq x f) [
-      | inl e ↦
-          absurd (none-some p
-          (sym (cond-true (eqb x f) None (predecessor_from (Some x) f xs) (eq-eqb x f e)) ∙ is))
+      | inl e ↦ absurd (none-some p (rw (eq-eqb x f e) at is))
       | inr ne ↦
           let b = stands_before f x xs (elim m [ inl e ↦ absurd (ne e) | inr n ↦ n ]) in
-          let same : b.frame ≡ p =
-          same_Some b.frame p (sym b.is
-          ∙ sym (cond-false (eqb x f) None (predecessor_from (Some x) f xs) (ne_eqb x f ne)) ∙ is) in
-          subst (λ (ys : List ℕ). Member p ys)
-          (sym (cond-false (eqb x f) xs (x ∷ without f xs) (ne_eqb x f ne)))
-          (subst (λ (q : ℕ). Member q (x ∷ without f xs)) same b.on)
+          let same : b.frame ≡ p = same_Some b.frame p (sym b.is ∙ (rw (ne_eqb x f ne) at is)) in
+          rw (ne_eqb x f ne) (subst (λ (q : ℕ). Member q (x ∷ without f xs)) same b.on)
     ]
 
 back_from : (f y : ℕ) (xs : List ℕ) → Member f xs → Distinct (y ∷ xs)
@@ -142,29 +109,15 @@ back_from : (f y : ℕ) (xs : List ℕ) → Member f xs → Distinct (y ∷ xs)
 back_from f y [] m d = absurd m
 back_from f y (x ∷ xs) m d =
     elim (cases_eq x f) [
-      | inl e ↦
-          rw (
-            cond-true (eqb x f) (Some y) (predecessor_from (Some x) f xs) (eq-eqb x f e),
-            cond-true (eqb x f) xs (x ∷ without f xs) (eq-eqb x f e),
-          )
-          (cond-true (eqb y y) (y ∷ f ∷ xs) (y ∷ with_behind (Some y) f xs) (eq-eqb y y refl)
-          ∙ ap (λ z. y ∷ z ∷ xs) (sym e))
+      | inl e ↦ rw (eq-eqb x f e, eq-eqb y y refl, e)
       | inr ne ↦
           let on : Member f xs = elim m [ inl e ↦ absurd (ne e) | inr n ↦ n ] in
           let b = stands_before f x xs on in
-          let other : b.frame ≢ y =
-          λ e. absent_not y (x ∷ xs) d.0 (subst (λ (z : ℕ). Member z (x ∷ xs)) e
+          let other : y ≢ b.frame =
+          λ e. absent_not y (x ∷ xs) d.0 (subst (λ (z : ℕ). Member z (x ∷ xs)) (sym e)
           (elim b.on [ inl h ↦ inl h | inr h ↦ inr (Member-without f b.frame xs h) ])) in
-          let rest : with_behind (Some b.frame) f (x ∷ without f xs) ≡ x ∷ xs =
-          rw b.is at (back_from f x xs on d.1) in
-          rw (
-            cond-false (eqb x f) (Some y) (predecessor_from (Some x) f xs) (ne_eqb x f ne),
-            cond-false (eqb x f) xs (x ∷ without f xs) (ne_eqb x f ne),
-            b.is,
-          )
-          (cond-false (eqb y b.frame) (y ∷ f ∷ x ∷ without f xs)
-          (y ∷ with_behind (Some b.frame) f (x ∷ without f xs)) (ne_eqb y b.frame (λ e. other (sym e)))
-          ∙ ap (λ ys. y ∷ ys) rest)
+          rw (ne_eqb x f ne, b.is, ne_eqb y b.frame other)
+          (ap (λ ys. y ∷ ys) (rw b.is at (back_from f x xs on d.1)))
     ]
 
 -- a frame put back after what came before it
@@ -173,21 +126,10 @@ pub back : (f : ℕ) (xs : List ℕ) → Member f xs → Distinct xs
 back f [] m d = absurd m
 back f (x ∷ xs) m d =
     elim (cases_eq x f) [
-      | inl e ↦
-          rw (
-            cond-true (eqb x f) None (predecessor_from (Some x) f xs) (eq-eqb x f e),
-            cond-true (eqb x f) xs (x ∷ without f xs) (eq-eqb x f e),
-          )
-          (ap (λ z. z ∷ xs) (sym e))
-      | inr ne ↦
-          rw (
-            cond-false (eqb x f) None (predecessor_from (Some x) f xs) (ne_eqb x f ne),
-            cond-false (eqb x f) xs (x ∷ without f xs) (ne_eqb x f ne),
-          )
-          (back_from f x xs (elim m [ inl e ↦ absurd (ne e) | inr n ↦ n ]) d)
+      | inl e ↦ rw (eq-eqb x f e, e)
+      | inr ne ↦ rw (ne_eqb x f ne) (back_from f x xs (elim m [ inl e ↦ absurd (ne e) | inr n ↦ n ]) d)
     ]
 
 pub without-absent : (f : ℕ) (xs : List ℕ) → Absent f xs → without f xs ≡ xs
 without-absent f [] a = refl
-without-absent f (x ∷ xs) a =
-    cond-false (eqb x f) xs (x ∷ without f xs) (ne_eqb x f a.0) ∙ ap (λ ys. x ∷ ys) (without-absent f xs a.1)
+without-absent f (x ∷ xs) a = rw (ne_eqb x f a.0, without-absent f xs a.1)

@@ -1,11 +1,11 @@
 -- What the invariant and the view of a `Links` show about the lists that contracts see, and what
 -- each change leaves.
-use Rattle.std.proofs.Common.{ℕ, ◌≡◌, ◌≢◌, ◌<◌, ◌≤◌, ◌+◌, ◌-◌, inl, inr, List, [], ◌∷◌, ◌++◌, Option, None, Some, IfSome, IfNone, true, is_some, length, get_or, map, set, refl, sym, ◌∙◌, ap, subst, arith}
+use Rattle.std.proofs.Common.{ℕ, ◌≡◌, ◌≢◌, ◌<◌, ◌≤◌, ◌+◌, ◌-◌, inl, inr, List, [], ◌∷◌, ◌++◌, Option, None, Some, IfSome, IfNone, true, is_some, length, get_or, map, set, refl, sym, ◌∙◌, ap, arith}
 use Rattle.std.proofs.lemmas.List.{append-nil, append_assoc, length-append, get_or-set_same, get_or-set_other, set-set, set-get_or, ext_get_or, get_or-map, length-map, length-set}
 use Rattle.std.proofs.lemmas.Bool.{cases_eq, false≢true}
 use Rattle.std.proofs.lemmas.Option.{same_Some}
-use Rattle.hp_links.specs.LinkedLists.{LinkedLists, list_at, with_list, IsOn, IsListed, IsUnlisted, IsApart, first, last, last_from, without, predecessor_from, predecessor, successor, with_behind, off_lists}
-use Rattle.hp_links.specs.Rings.{Table, Inserts, Removes, Member, Absent, Distinct, Chain, Linked, Keeps, shown, frame_at}
+use Rattle.hp_links.specs.LinkedLists.{LinkedLists, list_at, with_list, IsOn, IsListed, IsUnlisted, IsApart, first, last, without, predecessor, successor, with_behind, off_lists}
+use Rattle.hp_links.specs.Rings.{Table, Inserts, Removes, Member, Absent, Linked, Keeps, shown, frame_at}
 use Rattle.hp_links.proofs.Chains.{last_or, first_or, chain_first, chain_last, chain_list, chain_at, not_last, not_first, Distinct-append_right, absent_not, not_absent, Member-append_left, Member-append_right}
 use Rattle.hp_links.proofs.Linking.{IsNode, last_node, first_node, one_list, Linked-insert, Linked-remove}
 use Rattle.hp_links.proofs.Members.{Member-from_Contains, Contains-from_Member, place_unique, length-le_below}
@@ -30,14 +30,11 @@ module _ {v : LinkedLists} {frames : ℕ} {t : Table} {lens : List ℕ} (s : See
   frames_are = ap (λ (w : LinkedLists). w.frame_count) s.is
 
   pub linked : Linked frames t lens v.lists
-  linked = subst (λ (w : LinkedLists). Linked frames t lens w.lists) s.is s.kept
+  linked = rw (← s.is) s.kept
 
   -- a list by its number
   pub lens_in : (l : ℕ) → l < length v.lists → l < length lens
   lens_in l lt = omega (arith, linked.count)
-
-  pub len_is : (l : ℕ) → l < length v.lists → get_or lens l 0 ≡ length (list_at v l)
-  len_is l lt = linked.sizes l lt
 
   -- a frame of a list shows that there is such a list
   pub on_in : (l x : ℕ) → Member x (list_at v l) → l < length v.lists
@@ -45,8 +42,10 @@ module _ {v : LinkedLists} {frames : ℕ} {t : Table} {lens : List ℕ} (s : See
 
   -- the list of a listed frame
   pub list_on : (f : ℕ) → IsListed v f → (l : ℕ) × Member f (list_at v l) × (l < length v.lists)
-  list_on f on =
-      let m = Member-from_Contains f (list_at v on.0) on.1 in (on.0, m, on_in on.0 f m)
+  list_on f on = let m = Member-from_Contains f (list_at v on.0) on.1 in (on.0, m, on_in on.0 f m)
+
+  pub listed_below : (f : ℕ) → IsListed v f → f < frames
+  listed_below f on = linked.below on.0 f (Member-from_Contains f (list_at v on.0) on.1)
 
   pub free_absent : (f : ℕ) → IsUnlisted v f → (m : ℕ) → Absent f (list_at v m)
   free_absent f free m = not_absent f (list_at v m) (λ on. free m (Contains-from_Member f (list_at v m) on))
@@ -61,44 +60,40 @@ module _ {v : LinkedLists} {frames : ℕ} {t : Table} {lens : List ℕ} (s : See
       → IsNode (frames + l) (list_at v l) a → a ≢ f
   node_not_free l a f lt in_f free (inl e) same = omega (arith, frames_are)
   node_not_free l a f lt in_f free (inr m) same =
-      absent_not f (list_at v l) (free_absent f free l) (subst (λ (z : ℕ). Member z (list_at v l)) same m)
+      absent_not f (list_at v l) (free_absent f free l) (rw (← same) m)
+
+  -- the ends of a list
+  pub first_is : (l : ℕ) → l < length v.lists → t.next (frames + l) ≡ first_or (frames + l) (list_at v l)
+  first_is l lt = chain_first t l (frames + l) (list_at v l) (frames + l) (linked.rings l lt)
+
+  pub last_is : (l : ℕ) → l < length v.lists → t.prev (frames + l) ≡ last_or (frames + l) (list_at v l)
+  last_is l lt = chain_last t l (frames + l) (list_at v l) (frames + l) (linked.rings l lt)
+
+  -- the neighbours of a frame of a list
+  around : (l f : ℕ) → (on : Member f (list_at v l))
+      → (t.prev f ≡ last_or (frames + l) (split_at f (list_at v l) on).ahead)
+      × (t.next f ≡ first_or (frames + l) (split_at f (list_at v l) on).behind)
+  around l f on =
+      let cut = split_at f (list_at v l) on in
+      chain_at t l (frames + l) f cut.ahead cut.behind (frames + l)
+      (rw cut.is at (linked.rings l (on_in l f on)))
 
   -- the neighbours of a place of a ring are of that ring
   next_of_node : (l a : ℕ) → l < length v.lists → IsNode (frames + l) (list_at v l) a
       → IsNode (frames + l) (list_at v l) (t.next a)
-  next_of_node l a lt (inl e) =
-      subst (λ (z : ℕ). IsNode (frames + l) (list_at v l) z)
-      (sym (ap (λ (z : ℕ). t.next z) e
-      ∙ chain_first t l (frames + l) (list_at v l) (frames + l) (linked.rings l lt)))
-      (first_node (frames + l) [] (list_at v l))
+  next_of_node l a lt (inl e) = rw (e, first_is l lt) (first_node (frames + l) [] (list_at v l))
   next_of_node l a lt (inr m) =
-      let at = split_at a (list_at v l) m in
-      let c =
-      chain_at t l (frames + l) a at.ahead at.behind (frames + l)
-      (subst (λ (xs : List ℕ). Chain t l (frames + l) xs (frames + l)) at.is (linked.rings l lt)) in
-      subst (λ (xs : List ℕ). IsNode (frames + l) xs (t.next a)) (sym at.is)
-      (subst (λ (z : ℕ). IsNode (frames + l) (at.ahead ++ a ∷ at.behind) z) (sym c.1)
-      (subst (λ (xs : List ℕ). IsNode (frames + l) xs (first_or (frames + l) at.behind))
-      (append_assoc at.ahead (a ∷ []) at.behind)
-      (first_node (frames + l) (at.ahead ++ a ∷ []) at.behind)))
+      let cut = split_at a (list_at v l) m in
+      rw (cut.is, (around l a m).1, ← append_assoc cut.ahead (a ∷ []) cut.behind)
+      (first_node (frames + l) (cut.ahead ++ a ∷ []) cut.behind)
 
   prev_of_node : (l a : ℕ) → l < length v.lists → IsNode (frames + l) (list_at v l) a
       → IsNode (frames + l) (list_at v l) (t.prev a)
   prev_of_node l a lt (inl e) =
-      subst (λ (z : ℕ). IsNode (frames + l) (list_at v l) z)
-      (sym (ap (λ (z : ℕ). t.prev z) e
-      ∙ chain_last t l (frames + l) (list_at v l) (frames + l) (linked.rings l lt)))
-      (subst (λ (xs : List ℕ). IsNode (frames + l) xs (last_or (frames + l) (list_at v l)))
-      (append-nil (list_at v l))
-      (last_node (frames + l) (list_at v l) []))
+      rw (e, last_is l lt) (rw (append-nil (list_at v l)) at (last_node (frames + l) (list_at v l) []))
   prev_of_node l a lt (inr m) =
-      let at = split_at a (list_at v l) m in
-      let c =
-      chain_at t l (frames + l) a at.ahead at.behind (frames + l)
-      (subst (λ (xs : List ℕ). Chain t l (frames + l) xs (frames + l)) at.is (linked.rings l lt)) in
-      subst (λ (xs : List ℕ). IsNode (frames + l) xs (t.prev a)) (sym at.is)
-      (subst (λ (z : ℕ). IsNode (frames + l) (at.ahead ++ a ∷ at.behind) z) (sym c.0)
-      (last_node (frames + l) at.ahead (a ∷ at.behind)))
+      let cut = split_at a (list_at v l) m in
+      rw (cut.is, (around l a m).0) (last_node (frames + l) cut.ahead (a ∷ cut.behind))
 
   -- the neighbours of a place are in the table, and are no free frame
   pub next_in : (l a : ℕ) → l < length v.lists → IsNode (frames + l) (list_at v l) a
@@ -117,28 +112,19 @@ module _ {v : LinkedLists} {frames : ℕ} {t : Table} {lens : List ℕ} (s : See
       → IsNode (frames + l) (list_at v l) a → t.prev a ≢ f
   prev_not_free l a f lt in_f free is = node_not_free l (t.prev a) f lt in_f free (prev_of_node l a lt is)
 
-  -- the ends of a list
-  pub first_is : (l : ℕ) → l < length v.lists → t.next (frames + l) ≡ first_or (frames + l) (list_at v l)
-  first_is l lt = chain_first t l (frames + l) (list_at v l) (frames + l) (linked.rings l lt)
-
-  pub last_is : (l : ℕ) → l < length v.lists → t.prev (frames + l) ≡ last_or (frames + l) (list_at v l)
-  last_is l lt = chain_last t l (frames + l) (list_at v l) (frames + l) (linked.rings l lt)
-
   -- there is room for a free frame
   pub room : (l f : ℕ) → l < length v.lists → f < v.frame_count → IsUnlisted v f → get_or lens l 0 < frames
   room l f lt in_f free =
       let longer : length (f ∷ list_at v l) ≤ frames =
       length-le_below frames (f ∷ list_at v l) (free_absent f free l, linked.distinct l)
       (λ x m. elim m [ inl e ↦ omega (arith, frames_are) | inr on ↦ linked.below l x on ]) in
-      omega (arith, len_is l lt)
+      omega (arith, linked.sizes l lt)
 
   -- another table that keeps other lists
   becomes : (frames' : ℕ) (u : Table) (lens' : List ℕ) (lists' : List (List ℕ)) → frames' ≡ frames
       → Linked frames' u lens' lists' → Seen (record v { lists = lists' }) frames' u lens'
   becomes frames' u lens' lists' same k = record {
-    is =
-        shows frames' u lens' lists' k
-        ∙ ap (λ (n : ℕ). record { frame_count = n; lists = lists' }) (same ∙ frames_are);
+    is = rw (shows frames' u lens' lists' k, same, frames_are);
     kept = keeps frames' u lens' lists' k;
   }
 
@@ -151,10 +137,8 @@ module _ {v : LinkedLists} {frames : ℕ} {t : Table} {lens : List ℕ} (s : See
       let k =
       Linked-insert frames t u lens v.lists l ys zs f (get_or lens l 0 + 1) before after linked lt split
       (omega (arith, frames_are)) (free_absent f free)
-      (ap (λ n. n + 1) (len_is l lt ∙ ap length split)) before_is after_is i in
-      becomes frames' u lens' (set v.lists l (ys ++ f ∷ zs)) same
-      (subst (λ (n : ℕ). Linked n u lens' (set v.lists l (ys ++ f ∷ zs))) (sym same)
-      (subst (λ (ns : List ℕ). Linked frames u ns (set v.lists l (ys ++ f ∷ zs))) (sym lens_are) k))
+      (rw (linked.sizes l lt, split)) before_is after_is i in
+      becomes frames' u lens' (set v.lists l (ys ++ f ∷ zs)) same (rw (same, lens_are) k)
 
   -- what each change leaves
   pub pushed_front : (l f before after frames' : ℕ) (u : Table) (lens' : List ℕ) → l < length v.lists
@@ -163,7 +147,7 @@ module _ {v : LinkedLists} {frames : ℕ} {t : Table} {lens : List ℕ} (s : See
       → Seen (with_list v l (f ∷ list_at v l)) frames' u lens'
   pushed_front l f before after frames' u lens' lt in_f free before_is after_is =
       inserted l f before after [] (list_at v l) frames' u lens' lt in_f free refl before_is
-      (after_is ∙ ap (λ (z : ℕ). t.next z) before_is ∙ first_is l lt)
+      (rw (after_is, before_is) (first_is l lt))
 
   pub pushed_back : (l f before after frames' : ℕ) (u : Table) (lens' : List ℕ) → l < length v.lists
       → f < v.frame_count → IsUnlisted v f → before ≡ t.prev after → after ≡ frames + l → frames' ≡ frames
@@ -171,90 +155,64 @@ module _ {v : LinkedLists} {frames : ℕ} {t : Table} {lens : List ℕ} (s : See
       → Seen (with_list v l (list_at v l ++ f ∷ [])) frames' u lens'
   pushed_back l f before after frames' u lens' lt in_f free before_is after_is =
       inserted l f before after (list_at v l) [] frames' u lens' lt in_f free (sym (append-nil (list_at v l)))
-      (before_is ∙ ap (λ (z : ℕ). t.prev z) after_is ∙ last_is l lt) after_is
+      (rw (before_is, after_is) (last_is l lt)) after_is
 
   pub put_behind : (l f p after frames' : ℕ) (u : Table) (lens' : List ℕ) → f < v.frame_count → IsUnlisted v f
       → Member p (list_at v l) → after ≡ t.next p → frames' ≡ frames
       → lens' ≡ set lens l (get_or lens l 0 + 1) → Inserts t u l p f after
       → Seen (with_list v l (with_behind (Some p) f (list_at v l))) frames' u lens'
   put_behind l f p after frames' u lens' in_f free on after_is same lens_are i =
-      let lt = on_in l p on in
-      let at = split_at p (list_at v l) on in
-      let split : list_at v l ≡ (at.ahead ++ p ∷ []) ++ at.behind =
-      at.is ∙ sym (append_assoc at.ahead (p ∷ []) at.behind) in
-      let c =
-      chain_at t l (frames + l) p at.ahead at.behind (frames + l)
-      (subst (λ (xs : List ℕ). Chain t l (frames + l) xs (frames + l)) at.is (linked.rings l lt)) in
-      let result : (at.ahead ++ p ∷ []) ++ f ∷ at.behind ≡ with_behind (Some p) f (list_at v l) =
-      append_assoc at.ahead (p ∷ []) (f ∷ at.behind)
-      ∙ sym (ap (with_behind (Some p) f) at.is ∙ with_behind-split p f at.ahead at.behind at.new) in
-      subst (λ (xs : List ℕ). Seen (with_list v l xs) frames' u lens') result
-      (inserted l f p after (at.ahead ++ p ∷ []) at.behind frames' u lens' lt in_f free split
-      (sym (last_or-push (frames + l) p at.ahead)) (after_is ∙ c.1) same lens_are i)
+      let cut = split_at p (list_at v l) on in
+      let result : (cut.ahead ++ p ∷ []) ++ f ∷ cut.behind ≡ with_behind (Some p) f (list_at v l) =
+      append_assoc cut.ahead (p ∷ []) (f ∷ cut.behind)
+      ∙ sym (ap (with_behind (Some p) f) cut.is ∙ with_behind-split p f cut.ahead cut.behind cut.new) in
+      rw (← result) (inserted l f p after (cut.ahead ++ p ∷ []) cut.behind frames' u lens' (on_in l p on) in_f
+      free (cut.is ∙ sym (append_assoc cut.ahead (p ∷ []) cut.behind))
+      (sym (last_or-push (frames + l) p cut.ahead)) (after_is ∙ (around l p on).1) same lens_are i)
 
   pub unlinked : (l f before after frames' : ℕ) (u : Table) (lens' : List ℕ) → Member f (list_at v l)
       → before ≡ t.prev f → after ≡ t.next f → frames' ≡ frames → lens' ≡ set lens l (get_or lens l 0 - 1)
       → Removes t u before f after → Seen (with_list v l (without f (list_at v l))) frames' u lens'
   unlinked l f before after frames' u lens' on before_is after_is same lens_are r =
       let lt = on_in l f on in
-      let at = split_at f (list_at v l) on in
-      let c =
-      chain_at t l (frames + l) f at.ahead at.behind (frames + l)
-      (subst (λ (xs : List ℕ). Chain t l (frames + l) xs (frames + l)) at.is (linked.rings l lt)) in
-      let longer : get_or lens l 0 - 1 + 1 ≡ length (at.ahead ++ f ∷ at.behind) =
-      let n = len_is l lt ∙ ap length at.is in omega (arith, n, length-append at.ahead (f ∷ at.behind)) in
+      let cut = split_at f (list_at v l) on in
+      let c = around l f on in
+      let longer : get_or lens l 0 - 1 + 1 ≡ length (cut.ahead ++ f ∷ cut.behind) =
+      let n = linked.sizes l lt ∙ ap length cut.is in
+      omega (arith, n, length-append cut.ahead (f ∷ cut.behind)) in
       let k =
-      Linked-remove frames t u lens v.lists l at.ahead at.behind f (get_or lens l 0 - 1) before after linked
-      lt at.is longer (before_is ∙ c.0) (after_is ∙ c.1) r in
-      subst (λ (xs : List ℕ). Seen (with_list v l xs) frames' u lens')
-      (sym (ap (without f) at.is ∙ without-split f at.ahead at.behind at.new))
-      (becomes frames' u lens' (set v.lists l (at.ahead ++ at.behind)) same
-      (subst (λ (n : ℕ). Linked n u lens' (set v.lists l (at.ahead ++ at.behind))) (sym same) (subst
-      (λ (ns : List ℕ). Linked frames u ns (set v.lists l (at.ahead ++ at.behind))) (sym lens_are) k)))
+      Linked-remove frames t u lens v.lists l cut.ahead cut.behind f (get_or lens l 0 - 1) before after linked
+      lt cut.is longer (before_is ∙ c.0) (after_is ∙ c.1) r in
+      rw (ap (without f) cut.is ∙ without-split f cut.ahead cut.behind cut.new)
+      (becomes frames' u lens' (set v.lists l (cut.ahead ++ cut.behind)) same (rw (same, lens_are) k))
 
   -- what each look-up finds
   pub front_is : (l : ℕ) → l < length v.lists → frame_at frames (t.next (frames + l)) ≡ first (list_at v l)
   front_is l lt =
-      ap (frame_at frames) (first_is l lt)
-      ∙ first-frame frames (frames + l) (list_at v l) (omega arith) (linked.below l)
+      rw (first_is l lt) (first-frame frames (frames + l) (list_at v l) (omega arith) (linked.below l))
 
   pub last_frame_is : (l : ℕ) → l < length v.lists
       → frame_at frames (t.prev (frames + l)) ≡ last (list_at v l)
   last_frame_is l lt =
-      ap (frame_at frames) (chain_last t l (frames + l) (list_at v l) (frames + l) (linked.rings l lt))
-      ∙ last-frame frames (frames + l) (list_at v l) (linked.below l)
-      ∙ ap (λ (o : Option ℕ). last_from o (list_at v l)) (frame_at-head frames (frames + l) (omega arith))
+      rw (last_is l lt, last-frame frames (frames + l) (list_at v l) (linked.below l))
+      (rw (frame_at-head frames (frames + l) (omega arith)))
 
   pub before_is : (l f : ℕ) → Member f (list_at v l)
       → frame_at frames (t.prev f) ≡ predecessor f (list_at v l)
   before_is l f on =
-      let lt = on_in l f on in
-      let at = split_at f (list_at v l) on in
-      let c =
-      chain_at t l (frames + l) f at.ahead at.behind (frames + l)
-      (subst (λ (xs : List ℕ). Chain t l (frames + l) xs (frames + l)) at.is (linked.rings l lt)) in
-      let below : (x : ℕ) → Member x at.ahead → x < frames =
-      λ x m. linked.below l x (subst (λ (xs : List ℕ). Member x xs) (sym at.is)
-      (Member-append_left x at.ahead (f ∷ at.behind) m)) in
-      ap (frame_at frames) c.0
-      ∙ sym (predecessor-split frames f (frames + l) at.ahead at.behind at.new below)
-      ∙ ap (λ (o : Option ℕ). predecessor_from o f (at.ahead ++ f ∷ at.behind))
-      (frame_at-head frames (frames + l) (omega arith))
-      ∙ ap (predecessor f) (sym at.is)
+      let cut = split_at f (list_at v l) on in
+      let below : (x : ℕ) → Member x cut.ahead → x < frames =
+      λ x m. linked.below l x (rw cut.is (Member-append_left x cut.ahead (f ∷ cut.behind) m)) in
+      rw ((around l f on).0, ← predecessor-split frames f (frames + l) cut.ahead cut.behind cut.new below)
+      (rw (frame_at-head frames (frames + l) (omega arith)) (ap (predecessor f) (sym cut.is)))
 
   pub behind_is : (l f : ℕ) → Member f (list_at v l) → frame_at frames (t.next f) ≡ successor f (list_at v l)
   behind_is l f on =
-      let lt = on_in l f on in
-      let at = split_at f (list_at v l) on in
-      let c =
-      chain_at t l (frames + l) f at.ahead at.behind (frames + l)
-      (subst (λ (xs : List ℕ). Chain t l (frames + l) xs (frames + l)) at.is (linked.rings l lt)) in
-      let below : (x : ℕ) → Member x at.behind → x < frames =
-      λ x m. linked.below l x (subst (λ (xs : List ℕ). Member x xs) (sym at.is)
-      (Member-append_right x at.ahead (f ∷ at.behind) (inr m))) in
-      ap (frame_at frames) c.1
-      ∙ first-frame frames (frames + l) at.behind (omega arith) below
-      ∙ sym (ap (successor f) at.is ∙ successor-split f at.ahead at.behind at.new)
+      let cut = split_at f (list_at v l) on in
+      let below : (x : ℕ) → Member x cut.behind → x < frames =
+      λ x m. linked.below l x (rw cut.is (Member-append_right x cut.ahead (f ∷ cut.behind) (inr m))) in
+      rw ((around l f on).1, first-frame frames (frames + l) cut.behind (omega arith) below)
+      (sym (ap (successor f) cut.is ∙ successor-split f cut.ahead cut.behind cut.new))
 
   pub list_is : (l f : ℕ) → Member f (list_at v l) → t.list f ≡ Some l
   list_is l f on = chain_list t l (frames + l) (list_at v l) (frames + l) (linked.rings l (on_in l f on)) f on
@@ -269,35 +227,22 @@ module _ {v : LinkedLists} {frames : ℕ} {t : Table} {lens : List ℕ} (s : See
   -- a listed frame is a place of its own
   pub prev_not_self : (l f : ℕ) → Member f (list_at v l) → t.prev f ≢ f
   prev_not_self l f on e =
-      let lt = on_in l f on in
-      let at = split_at f (list_at v l) on in
-      let c =
-      chain_at t l (frames + l) f at.ahead at.behind (frames + l)
-      (subst (λ (xs : List ℕ). Chain t l (frames + l) xs (frames + l)) at.is (linked.rings l lt)) in
+      let cut = split_at f (list_at v l) on in
       let below = linked.below l f on in
-      not_last f (frames + l) at.ahead (λ same. omega arith) at.new (sym c.0 ∙ e)
+      not_last f (frames + l) cut.ahead (λ same. omega arith) cut.new (sym (around l f on).0 ∙ e)
 
   pub next_not_self : (l f : ℕ) → Member f (list_at v l) → t.next f ≢ f
   next_not_self l f on e =
-      let lt = on_in l f on in
-      let at = split_at f (list_at v l) on in
-      let c =
-      chain_at t l (frames + l) f at.ahead at.behind (frames + l)
-      (subst (λ (xs : List ℕ). Chain t l (frames + l) xs (frames + l)) at.is (linked.rings l lt)) in
+      let cut = split_at f (list_at v l) on in
       let below = linked.below l f on in
-      let d : Distinct (at.ahead ++ f ∷ at.behind) =
-      subst (λ (xs : List ℕ). Distinct xs) at.is (linked.distinct l) in
-      not_first f (frames + l) at.behind (λ same. omega arith)
-      ((Distinct-append_right at.ahead (f ∷ at.behind) d).0) (sym c.1 ∙ e)
+      let d = Distinct-append_right cut.ahead (f ∷ cut.behind) (rw cut.is at (linked.distinct l)) in
+      not_first f (frames + l) cut.behind (λ same. omega arith) d.0 (sym (around l f on).1 ∙ e)
 
   pub len_not_zero : (l f : ℕ) → Member f (list_at v l) → 0 < get_or lens l 0
   len_not_zero l f on =
-      let at = split_at f (list_at v l) on in
-      let n = len_is l (on_in l f on) ∙ ap length at.is in
-      omega (arith, n, length-append at.ahead (f ∷ at.behind))
-
-  pub frame_in : (l f : ℕ) → Member f (list_at v l) → f < frames
-  frame_in l f on = linked.below l f on
+      let cut = split_at f (list_at v l) on in
+      let n = linked.sizes l (on_in l f on) ∙ ap length cut.is in
+      omega (arith, n, length-append cut.ahead (f ∷ cut.behind))
 
   -- what a look-up of the list answers
   pub found_on : (o : Option ℕ) (f : ℕ) → f < v.frame_count → o ≡ t.list f → IfSome o (λ l. IsOn v l f)
@@ -315,9 +260,6 @@ module _ {v : LinkedLists} {frames : ℕ} {t : Table} {lens : List ℕ} (s : See
       let no : None ≡ Some l = cc (e, is) in
       cc no
   found_none (Some l) f e = tt
-
-  pub found_some : (o : Option ℕ) (l f : ℕ) → o ≡ t.list f → Member f (list_at v l) → o ≡ Some l
-  found_some o l f e on = e ∙ list_is l f on
 
   pub found_listed : (o : Option ℕ) (f : ℕ) → f < v.frame_count → o ≡ t.list f → is_some o ≡ true
       → IsListed v f
@@ -340,29 +282,21 @@ module _ {v : LinkedLists} {frames : ℕ} {t : Table} {lens : List ℕ} (s : See
   list_left : (l f : ℕ) (w : LinkedLists) → Member f (list_at v l)
       → w ≡ with_list v l (without f (list_at v l)) → list_at w l ≡ without f (list_at v l)
   list_left l f w on w_is =
-      ap (λ (x : LinkedLists). list_at x l) w_is
-      ∙ get_or-set_same v.lists l (without f (list_at v l)) [] (on_in l f on)
+      rw w_is (get_or-set_same v.lists l (without f (list_at v l)) [] (on_in l f on))
 
   pub before_stays : (l f : ℕ) (w : LinkedLists) (o : Option ℕ) → Member f (list_at v l)
       → w ≡ with_list v l (without f (list_at v l)) → o ≡ predecessor f (list_at v l) → (p : ℕ) → o ≡ Some p
       → IsOn w l p
   before_stays l f w o on w_is o_is p is =
       Contains-from_Member p (list_at w l)
-      (subst (λ (xs : List ℕ). Member p xs) (sym (list_left l f w on w_is))
-      (predecessor_on f (list_at v l) on p (sym o_is ∙ is)))
+      (rw (list_left l f w on w_is) (predecessor_on f (list_at v l) on p (sym o_is ∙ is)))
 
   pub comes_back : (l f : ℕ) (w : LinkedLists) (o : Option ℕ) → Member f (list_at v l)
       → w ≡ with_list v l (without f (list_at v l)) → o ≡ predecessor f (list_at v l)
       → with_list w l (with_behind o f (list_at w l)) ≡ v
   comes_back l f w o on w_is o_is =
-      let old : with_behind o f (list_at w l) ≡ list_at v l =
-      ap (λ (xs : List ℕ). with_behind o f xs) (list_left l f w on w_is)
-      ∙ ap (λ (q : Option ℕ). with_behind q f (without f (list_at v l))) o_is
-      ∙ back f (list_at v l) on (linked.distinct l) in
-      ap (with_list w l) old
-      ∙ ap (λ (x : LinkedLists). with_list x l (list_at v l)) w_is
-      ∙ ap (λ (ls : List (List ℕ)). record v { lists = ls })
-      (set-set v.lists l (without f (list_at v l)) (list_at v l) ∙ set-get_or v.lists l [])
+      rw (list_left l f w on w_is, o_is, back f (list_at v l) on (linked.distinct l), w_is)
+      (rw (set-set v.lists l (without f (list_at v l)) (list_at v l)) (rw (set-get_or v.lists l [])))
 
   -- a frame is on no other list
   pub off_lists_are : (l f : ℕ) → Member f (list_at v l)
@@ -376,12 +310,9 @@ module _ {v : LinkedLists} {frames : ℕ} {t : Table} {lens : List ℕ} (s : See
       let in_k : k < length v.lists = omega (arith, length-map v.lists (without f)) in
       get_or-map (without f) v.lists k [] [] in_k
       ∙ elim (cases_eq k l) [
-        | inl e ↦ ap (λ (m : ℕ). without f (list_at v m)) e
-            ∙ sym (ap (λ (m : ℕ). get_or (set v.lists l (without f (list_at v l))) m []) e
-            ∙ get_or-set_same v.lists l (without f (list_at v l)) [] lt)
-        | inr ne ↦
-            without-absent f (list_at v k) (not_absent f (list_at v k)
-            (λ other. ne (one_list frames t lens v.lists linked k l f in_k lt other on)))
-            ∙ sym (get_or-set_other v.lists l k (without f (list_at v l)) [] ne)
+        | inl e ↦ rw (e, get_or-set_same v.lists l (without f (list_at v l)) [] lt)
+        | inr ne ↦ rw (get_or-set_other v.lists l k (without f (list_at v l)) [] ne)
+            (without-absent f (list_at v k) (not_absent f (list_at v k)
+            (λ other. ne (one_list frames t lens v.lists linked k l f in_k lt other on))))
       ]) in
-      ap (λ (ls : List (List ℕ)). record v { lists = ls }) same
+      rw same

@@ -1,5 +1,5 @@
 -- A list as it is walked from its front.
-use Rattle.std.proofs.Common.{ℕ, ◌≡◌, ◌<◌, inl, List, [], ◌∷◌, ◌++◌, Option, None, Some, length, refl, sym, ◌∙◌, ap, subst, arith}
+use Rattle.std.proofs.Common.{ℕ, ◌≡◌, ◌<◌, inl, List, [], ◌∷◌, ◌++◌, Option, None, Some, length, refl, sym, ◌∙◌, ap, arith}
 use Rattle.std.proofs.lemmas.List.{append_assoc, append-nil, length-append}
 use Rattle.std.proofs.lemmas.Option.{same_Some}
 use Rattle.hp_links.specs.LinkedLists.{first, successor}
@@ -24,20 +24,17 @@ meets xs walked frame next some w = at w.rest w.is (sym some ∙ w.next_is)
   where
     at : (rest : List ℕ) → xs ≡ walked ++ rest → Some frame ≡ first rest → Meets xs walked frame
     at [] is e = absurd (cc)
-    at (x ∷ rest) is e =
-        record { behind = rest; is = is ∙ ap (λ (y : ℕ). walked ++ y ∷ rest) (sym (same_Some frame x e)) }
+    at (x ∷ rest) is e = record { behind = rest; is = rw (same_Some frame x e) is }
 
 pub walked-none : (xs walked : List ℕ) (next : Option ℕ) → walked ≡ [] → next ≡ first xs
     → IsWalked xs walked next
-walked-none xs walked next none e =
-    record { rest = xs; is = ap (λ (ys : List ℕ). ys ++ xs) (sym none); next_is = e }
+walked-none xs walked next none e = record { rest = xs; is = rw none; next_is = e }
 
 pub walked-on : (xs walked : List ℕ) (frame : ℕ) (next : Option ℕ) → next ≡ Some frame
     → IsWalked xs walked next → Member frame xs
 walked-on xs walked frame next some w =
     let m = meets xs walked frame next some w in
-    subst (λ (ys : List ℕ). Member frame ys) (sym m.is)
-    (Member-append_right frame walked (frame ∷ m.behind) (inl refl))
+    rw m.is (Member-append_right frame walked (frame ∷ m.behind) (inl refl))
 
 pub walked-fewer : (xs walked : List ℕ) (frame : ℕ) (next : Option ℕ) → next ≡ Some frame
     → IsWalked xs walked next → length walked < length xs
@@ -52,12 +49,10 @@ walked-more xs walked further frame next after distinct some w is e =
     let m = meets xs walked frame next some w in
     let apart =
     Absent-append_left frame walked m.behind
-    (Distinct-remove frame walked m.behind (subst Distinct m.is distinct)).0 in
+    (Distinct-remove frame walked m.behind (rw m.is at distinct)).0 in
     record {
       rest = m.behind;
-      is =
-          m.is
-          ∙ (sym (append_assoc walked (frame ∷ []) m.behind) ∙ ap (λ (ys : List ℕ). ys ++ m.behind) (sym is));
+      is = rw (is, append_assoc walked (frame ∷ []) m.behind) m.is;
       next_is = e ∙ (ap (successor frame) m.is ∙ successor-split frame walked m.behind apart);
     }
 

@@ -1,44 +1,30 @@
 -- A machine's call is a port's.
-use Rattle.std.proofs.Common.{◌≡◌, ◌↔◌, ℕ, Bool, true, false, List, [], ◌∷◌, ◌++◌, Option, Some, None, Result, Ok, Err, IsTrue, refl, ap, sym, subst, ◌∙◌}
-use Rattle.hp_units.specs.LayoutParts.{LayoutParts}
+use Rattle.std.proofs.Common.{◌≡◌, ◌↔◌, ℕ, Bool, true, false, List, [], ◌∷◌, ◌++◌, Option, Some, None, Result, Ok, Err, IsTrue, refl, ◌∙◌}
 use Rattle.hp_units.specs.Receipts.{receipts_of}
-use Rattle.hp_units.specs.History.{reply_of}
 use Rattle.hp_machine.specs.Machine.{IsCalled, MachineValue, is_full, record_of}
 use Rattle.hp_machine.specs.Names.{Event, Receipt, CallFault, HistoryFull, OutOfMemory}
-use Rattle.hp_ops.specs.Ports.{AreMade, IsBeginReply, IsDriverReply, IsGiven, has_opened}
+use Rattle.hp_ops.specs.Ports.{AreMade, IsGiven, has_opened}
 use Rattle.hp_machine.specs.MachinePorts.{AreCalls, HasCause, port_value}
 use Rattle.hp_ops.proofs.Gained.{opened_more}
 use Rattle.hp_machine.proofs.Replies.{begin_known, driver_known, opened_inside, receipts_more}
-
--- the processor's receipts after a call
-called_receipts : (old new : MachineValue) (cpu : ℕ) (event : Event) (r : Receipt)
-    → IsCalled old cpu event r new → receipts_of cpu new.history ≡ receipts_of cpu old.history ++ r ∷ []
-called_receipts old new cpu event r called =
-    ap (receipts_of cpu) called.history ∙ receipts_more cpu old.history (record_of cpu r) refl
 
 -- what a call gives to the processor's port
 pub called_is_given : (old new : MachineValue) (cpu : ℕ) (event : Event) (r : Receipt)
     (fault : Option CallFault)
     → IsCalled old cpu event r new → IsGiven (port_value old cpu fault) event r (port_value new cpu None)
 called_is_given old new cpu event r fault called =
-    let receipts = called_receipts old new cpu event r called in
+    let receipts : receipts_of cpu new.history ≡ receipts_of cpu old.history ++ r ∷ [] =
+    rw called.history (receipts_more cpu old.history (record_of cpu r) refl) in
     record {
       asked = called.asked;
-      value =
-          ap (λ (rs : List Receipt). record { receipts = rs; fault = None; cpus = new.layout.cpus })
-          receipts ∙ ap
-          (λ (n : ℕ). record { receipts = receipts_of cpu old.history ++ r ∷ []; fault = None; cpus = n })
-          (ap (λ (l : LayoutParts). l.cpus) called.layout);
+      value = rw (receipts, called.layout);
       begun =
-          λ plan is. subst IsBeginReply (sym called.reply) (subst
-          (λ (e : Event). IsBeginReply (reply_of old.layout old.base old.before old.history cpu e)) (sym is)
-          (begin_known old.layout old.base old.before old.history cpu plan));
+          λ plan is. rw (called.reply, is) (begin_known old.layout old.base old.before old.history cpu plan);
       known = λ opened.
           let later : has_opened (receipts_of cpu new.history) ≡ true =
-          ap has_opened receipts ∙ opened_more (receipts_of cpu old.history) (r ∷ []) opened in
+          rw receipts (opened_more (receipts_of cpu old.history) (r ∷ []) opened) in
           let inside = opened_inside old.layout old.base old.before new.history cpu called.legal later in
-          subst (IsDriverReply old.layout.cpus event) (sym called.reply)
-          (driver_known old.layout old.base old.before old.history cpu event inside);
+          rw called.reply (driver_known old.layout old.base old.before old.history cpu event inside);
     }
 
 -- ---- what it makes of the machine
@@ -62,7 +48,7 @@ pub called_once : {A : Type 0} (old new : MachineValue) (cpu : ℕ) (event : Eve
 called_once old new cpu event r a tells called = (
   new,
   room_of (is_full old) a tells,
-  subst (λ (e : Event). IsCalled old cpu e r new) (sym called.asked) called,
+  rw (← called.asked) at called,
   refl,
 )
 
@@ -89,9 +75,5 @@ pub calls_made : {S N : Type 0} (old new : S) (name : S → N) (cpu : S → ℕ)
 calls_made old new name cpu machine gained None calls = (calls.0, calls.2, tt)
 calls_made old new name cpu machine gained (Some fault) made =
     let calls = made.1 in
-    let left = made.2 in (
-      left.0 ∙ calls.0,
-      subst (λ (m : MachineValue). AreCalls (machine old) (cpu old) gained m) (sym left.2)
-          calls.2,
-      subst (HasCause (Some fault)) (sym left.2) left.3,
-    )
+    let left = made.2 in
+    (left.0 ∙ calls.0, rw left.2 calls.2, rw left.2 left.3)

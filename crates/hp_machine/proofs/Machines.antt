@@ -1,20 +1,15 @@
 -- What every machine keeps, and what follows from it.
-use Rattle.std.proofs.Common.{◌≡◌, ℕ, ◌<◌, ◌≤◌, ◌+◌, false, List, [], ◌∷◌, ◌++◌, length, refl, ap, sym, subst, ◌∙◌, arith}
+use Rattle.std.proofs.Common.{◌≡◌, ℕ, ◌<◌, ◌≤◌, ◌+◌, false, List, [], ◌∷◌, ◌++◌, length, refl, sym, ◌∙◌, arith}
 use Rattle.std.specs.Prelude.{nat_le, Result, Ok, Err, IfOk, OnErr, OnOk}
 use Rattle.std.proofs.lemmas.List.{length_push}
 use Rattle.std.proofs.lemmas.Bool.{or_parts, leb-false}
-use Rattle.hp_units.specs.Memory.{Memory, row_of}
 use Rattle.hp_units.specs.Boot.{boot_memory}
 use Rattle.hp_units.specs.LayoutParts.{IsLayout, LayoutParts}
-use Rattle.hp_units.specs.Placement.{IsWellPlaced}
 use Rattle.hp_units.specs.History.{IsLegal, net_of, run, value_of}
 use Rattle.hp_units.specs.declared.events.Event.{Event}
-use Rattle.hp_units.specs.declared.plans.Item.{Item}
 use Rattle.hp_units.specs.declared.replies.Record.{Record}
 use Rattle.hp_units.specs.declared.replies.Receipt.{Receipt}
 use Rattle.hp_units.specs.declared.replies.Reply.{Reply}
-use Rattle.hp_laws.specs.Offline.{AreClaimedUpTo}
-use Rattle.hp_laws.specs.Operations.{BeginsAt, IsOpenBehind, RowsAre, state_behind}
 use Rattle.hp_laws.proofs.Boots.{boot-placed}
 use Rattle.hp_laws.proofs.EventSteps.{value-placed}
 use Rattle.hp_laws.proofs.NetContents.{value-contents}
@@ -49,39 +44,22 @@ room m free =
     (nat_le 18446744073709551615 (m.before + length m.history)) free in
     (leb-false m.layout.history (length m.history) parts.0, parts.1)
 
--- the longer history is within the limit
-few_called : (h new : List Record) (r : Record) (limit : ℕ) → length h < limit → new ≡ h ++ r ∷ []
-    → length new ≤ limit
-few_called h new r limit less is = omega (arith, less, ap length is, length_push h r)
-
 -- a call keeps it
 pub called_machine : (old new : MachineValue) (cpu : ℕ) (event : Event) (r : Receipt) → IsMachine old
     → is_full old ≡ false → IsCalled old cpu event r new → IsMachine new
 called_machine old new cpu event r ok free call = record {
-  limits = subst IsLayout (sym call.layout) ok.limits;
-  placed =
-      subst (λ (l : LayoutParts). IsWellPlaced l new.base) (sym call.layout)
-      (subst (λ (s : Memory). IsWellPlaced old.layout s) (sym call.base) ok.placed);
-  numbered =
-      subst (λ (n : ℕ). AreClaimedUpTo n new.base.blocks) (sym call.before)
-      (subst (λ (s : Memory). AreClaimedUpTo old.before s.blocks) (sym call.base) ok.numbered);
-  history = record { legal = legal; state = call.state ∙ sym value };
+  limits = rw call.layout ok.limits;
+  placed = rw (call.layout, call.base) ok.placed;
+  numbered = rw (call.before, call.base) ok.numbered;
+  history = record {
+    legal = rw (call.layout, call.base, call.before) call.legal;
+    state = rw (call.layout, call.base) call.state;
+  };
   few =
-      subst (λ (l : LayoutParts). length new.history ≤ l.history) (sym call.layout) (few_called old.history
-      new.history (record_of cpu r) old.layout.history (room old free).0 call.history);
-  boots = λ none. call.base ∙ (ok.boots (sym call.before ∙ none) ∙ ap boot_memory (sym call.layout));
+      rw (call.layout, call.history)
+      (omega (arith, (room old free).0, length_push old.history (record_of cpu r)));
+  boots = λ none. rw (call.base, call.layout) (ok.boots (sym call.before ∙ none));
 }
-  where
-    legal : IsLegal new.layout new.base new.before new.history
-    legal =
-        subst (λ (l : LayoutParts). IsLegal l new.base new.before new.history) (sym call.layout)
-        (subst (λ (s : Memory). IsLegal old.layout s new.before new.history) (sym call.base)
-        (subst (λ (n : ℕ). IsLegal old.layout old.base n new.history) (sym call.before) call.legal))
-
-    value : value_of new.layout new.base new.history ≡ value_of old.layout old.base new.history
-    value =
-        ap (λ (l : LayoutParts). value_of l new.base new.history) call.layout
-        ∙ ap (λ (s : Memory). value_of old.layout s new.history) call.base
 
 -- so does one that left no record
 pub call_kept : {E : Type 0} (old new : MachineValue) (cpu : ℕ) (event : Event)
@@ -90,29 +68,24 @@ pub call_kept : {E : Type 0} (old new : MachineValue) (cpu : ℕ) (event : Event
     → IfOk result (λ answer. IsCalled old cpu event (receipt_for event answer) new) → IsMachine new
 call_kept old new cpu event (Ok answer) ok free same call =
     called_machine old new cpu event (receipt_for event answer) ok free call
-call_kept old new cpu event (Err e) ok free same call = subst IsMachine (sym same) ok
+call_kept old new cpu event (Err e) ok free same call = rw same ok
 
 -- a receipt that has a copy of the event
 pub called_copy : (old new : MachineValue) (cpu serial : ℕ) (event copy : Event) (reply : Reply)
     → copy ≡ event
     → IsCalled old cpu event (receipt_for event (serial, reply)) new
     → IsCalled old cpu event (receipt_for copy (serial, reply)) new
-called_copy old new cpu serial event copy reply copied call =
-    subst (λ (e : Event). IsCalled old cpu event (receipt_for e (serial, reply)) new) (sym copied) call
+called_copy old new cpu serial event copy reply copied call = rw copied call
 
 -- what a user relies on follows from what a machine keeps
 pub sound : (m : MachineValue) → IsMachine m → IsSound m
 sound m ok = record {
   limits = ok.limits;
   few = ok.few;
-  placed =
-      subst (λ (s : Memory). IsWellPlaced m.layout s) (sym ok.history.state)
-      (value-placed m.layout m.base m.history ok.limits ok.placed);
+  placed = rw ok.history.state (value-placed m.layout m.base m.history ok.limits ok.placed);
   base_placed = ok.placed;
   base_numbered = ok.numbered;
-  contents =
-      ap (λ (s : Memory). s.pages.contents) ok.history.state
-      ∙ value-contents m.layout m.base m.before m.history ok.history.legal;
+  contents = rw ok.history.state (value-contents m.layout m.base m.before m.history ok.history.legal);
 }
 
 -- where no record is there to be sealed, the state is that at boot
@@ -129,7 +102,7 @@ sealed_machine m new ok is =
       limits = ok.limits;
       placed = (sound m ok).placed;
       numbered =
-          subst (λ (s : Memory). AreClaimedUpTo (last_serial m) s.blocks) (sym ok.history.state)
+          rw ok.history.state
           (value-claims m.layout m.base m.before m.history ok.history.legal ok.numbered);
       history = record { legal = λ n r e. absurd cc; state = refl };
       few = omega arith;
@@ -140,14 +113,12 @@ sealed_machine m new ok is =
 pub seal_kept : {V E : Type 0} (m new : MachineValue) (result : Result V E) → IsMachine m
     → OnErr result (new ≡ m) → OnOk result (new ≡ sealed m) → IsMachine new
 seal_kept m new (Ok v) ok same goes_on = sealed_machine m new ok goes_on
-seal_kept m new (Err e) ok same goes_on = subst IsMachine (sym same) ok
+seal_kept m new (Err e) ok same goes_on = rw same ok
 
 -- the history up to one of its records is legal
 up_to : (m : MachineValue) (h rest : List Record) (r : Record) → IsMachine m → m.history ≡ h ++ r ∷ rest
     → IsLegal m.layout m.base m.before (h ++ r ∷ [])
-up_to m h rest r ok is =
-    legal_up_to m.layout m.base m.before h rest r
-    (subst (λ (g : List Record). IsLegal m.layout m.base m.before g) is ok.history.legal)
+up_to m h rest r ok is = legal_up_to m.layout m.base m.before h rest r (rw is at ok.history.legal)
 
 -- and so do the laws of operations
 pub operations : (m : MachineValue) → IsMachine m → KeepsOperations m
@@ -156,7 +127,9 @@ operations m ok = record {
     claimed =
         λ place b plan at.
         claimed m.layout m.base m.before m.history place b plan ok.limits ok.placed ok.history.legal at;
-    held = λ place b plan at open_behind. still_held place b plan at open_behind;
+    held = λ place b plan at stays.
+        rw ok.history.state
+        (held m.layout m.base m.before m.history place b plan ok.limits ok.placed ok.history.legal at stays);
   };
   commits = record {
     held =
@@ -170,12 +143,3 @@ operations m ok = record {
       λ h rest r place b plan is at asked good. given_back m.layout m.base m.before h r place b plan ok.limits
       ok.placed (up_to m h rest r ok is) at asked good;
 }
-  where
-    still_held : (place : ℕ) (b : Record) (plan : List Item) → BeginsAt (net_of m.history) place b plan
-        → IsOpenBehind b.serial place (net_of m.history)
-        → RowsAre m.state plan
-        (λ item. row_of (state_behind m.layout m.base m.before m.history b).blocks item.block)
-    still_held place b plan at stays =
-        subst (λ (s : Memory). RowsAre s plan (λ item. row_of
-        (state_behind m.layout m.base m.before m.history b).blocks item.block)) (sym ok.history.state)
-        (held m.layout m.base m.before m.history place b plan ok.limits ok.placed ok.history.legal at stays)

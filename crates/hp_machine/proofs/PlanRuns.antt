@@ -1,5 +1,5 @@
 -- A plan's driver, from its port's machine before and after the calls.
-use Rattle.std.proofs.Common.{◌≡◌, ℕ, List, Option, sym, subst}
+use Rattle.std.proofs.Common.{◌≡◌, ℕ, List, Option}
 use Rattle.hp_units.specs.declared.plans.Item.{Item}
 use Rattle.hp_units.specs.declared.replies.CallFault.{CallFault}
 use Rattle.hp_units.specs.declared.replies.OpEnd.{OpEnd}
@@ -17,10 +17,7 @@ plan_driven m first last new cpu caller turns plan end fault gained at_first sam
     record {
       receipts = gained;
       fault = fault;
-      calls =
-          subst (λ (k : MachineValue). AreCalls m cpu gained k) (sym at_last)
-          (subst (λ (n : ℕ). AreCalls m n gained
-          last) same (subst (λ (k : MachineValue). AreCalls k caller gained last) at_first calls));
-      cause = subst (HasCause fault) (sym at_last) cause;
-      run = subst (λ (k : MachineValue). IsDriverRun k.layout.cpus turns plan gained fault end) at_first ran;
+      calls = rw (at_last, ← same, ← at_first) calls;
+      cause = rw at_last cause;
+      run = rw (← at_first) ran;
     }

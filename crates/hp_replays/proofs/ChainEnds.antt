@@ -1,5 +1,5 @@
 -- How an audit goes on by the next volume of a list, and where it finds one at fault.
-use Rattle.std.proofs.Common.{◌≡◌, ℕ, ◌+◌, ◌≤◌, List, [], ◌∷◌, ◌++◌, length, take, Some, slice_get, refl, ap, sym, subst, ◌∙◌, arith}
+use Rattle.std.proofs.Common.{◌≡◌, ℕ, ◌+◌, ◌≤◌, List, [], ◌∷◌, length, take, Some, slice_get, refl, sym, ◌∙◌}
 use Rattle.std.specs.Prelude.{fold}
 use Rattle.std.proofs.lemmas.List.{take_all}
 use Rattle.hp_units.specs.Boot.{boot_memory}
@@ -43,21 +43,17 @@ ends_none l volumes end is =
 pub begun_at_boot : (l : LayoutParts) (image : Pictured) (end : CourseValue) → image.layout ≡ l
     → image.memory ≡ boot_memory l → end ≡ started image.layout image.memory 0
     → end ≡ started l (boot_memory l) 0
-begun_at_boot l image end layout memory is =
-    is ∙ (ap (λ (m : LayoutParts). started m image.memory 0) layout
-    ∙ ap (λ (s : Memory). started l s 0) memory)
+begun_at_boot l image end layout memory is = rw (is, layout, memory)
 
 -- the Image is its base
 pub begins_with : (image : Pictured) (end : CourseValue) → end ≡ started image.layout image.memory 0
     → image ≡ pictured end.layout end.base
-begins_with image end is =
-    subst (λ (c : CourseValue). image ≡ pictured c.layout c.base) (sym is) refl
+begins_with image end is = rw is
 
 -- what it shows
 pub end_shown : (l : LayoutParts) (volumes : List Volume) (end : CourseValue) → EndsVolumes l volumes end
     → pictured end.layout end.base ≡ pictured l (state_after l volumes)
-end_shown l volumes end ok =
-    ap (λ (m : LayoutParts). pictured m end.base) ok.layout ∙ ap (pictured l) ok.state
+end_shown l volumes end ok = rw (ok.layout, ok.state)
 
 -- one volume more
 pub ends_more : (l : LayoutParts) (volumes : List Volume) (at : ℕ) (v : Volume) (end next : CourseValue)
@@ -65,33 +61,24 @@ pub ends_more : (l : LayoutParts) (volumes : List Volume) (at : ℕ) (v : Volume
     → IsLegal end.layout end.base end.before v.records → next ≡ sealed_after end v
     → EndsVolumes l (take (at + 1) volumes) next
 ends_more l volumes at v end next here ok follows legal is =
-    subst (λ (g : List Volume). EndsVolumes l g next) (sym (take_one volumes at v here))
-    (subst (λ (c : CourseValue). EndsVolumes l (take at volumes ++ v ∷ []) c) (sym is) (record {
+    rw (take_one volumes at v here, is) (record {
       start = refl;
       layout = ok.layout;
-      count = ap (λ (n : ℕ). n + length v.records) ok.count ∙ sym (count_more (take at volumes) v);
-      state =
-          ap (λ (m : LayoutParts). value_of m end.base v.records) ok.layout
-          ∙ (ap (λ (s : Memory). value_of l s v.records) ok.state ∙ sym (state_more l (take at volumes) v));
+      count = rw ok.count (sym (count_more (take at volumes) v));
+      state = rw (ok.layout, ok.state) (sym (state_more l (take at volumes) v));
       chain =
           chain_more l (take at volumes) v ok.chain
           (record {
             count = follows.count ∙ ok.count;
             base = follows.base ∙ end_shown l (take at volumes) end ok;
-            legal = legal_after;
+            legal = rw (ok.layout, ok.state, ok.count) at legal;
           });
-    }))
-  where
-    legal_after : IsLegal l (state_after l (take at volumes)) (records_in (take at volumes)) v.records
-    legal_after =
-        subst (λ (n : ℕ). IsLegal l (state_after l (take at volumes)) n v.records) ok.count
-        (subst (λ (s : Memory). IsLegal l s end.before v.records) ok.state
-        (subst (λ (m : LayoutParts). IsLegal m end.base end.before v.records) ok.layout legal))
+    })
 
 -- the course after all volumes
 pub ends_all : (l : LayoutParts) (volumes : List Volume) (at : ℕ) (end : CourseValue) → length volumes ≤ at
     → EndsVolumes l (take at volumes) end → EndsVolumes l volumes end
-ends_all l volumes at end le ok = subst (λ (g : List Volume). EndsVolumes l g end) (take_all at volumes le) ok
+ends_all l volumes at end le ok = rw (take_all at volumes le) at ok
 
 -- the state that volumes lead to is well placed
 placed_after : (l : LayoutParts) (volumes : List Volume) (s : Memory) → IsLayout l → IsWellPlaced l s
@@ -107,24 +94,15 @@ end_placed l volumes image limits is =
 
 -- ---- faults
 
-fault_at : (l : LayoutParts) (volumes : List Volume) (at : ℕ) (v : Volume) (end : CourseValue)
-    (fault : ReplayFault)
-    → EndsVolumes l (take at volumes) end → IsFault end.layout end.base end.before v.records fault
-    → IsFault l (state_after l (take at volumes)) (records_in (take at volumes)) v.records fault
-fault_at l volumes at v end fault ok wrong =
-    subst (λ (n : ℕ). IsFault l (state_after l (take at volumes)) n v.records fault) ok.count
-    (subst (λ (s : Memory). IsFault l s end.before v.records fault) ok.state
-    (subst (λ (m : LayoutParts). IsFault m end.base end.before v.records fault) ok.layout wrong))
-
 pub fault_after : (l : LayoutParts) (volumes : List Volume) (at : ℕ) (v : Volume) (end : CourseValue)
     (fault : ChainFault)
     → slice_get volumes at ≡ Some v → EndsVolumes l (take at volumes) end → IsFaultAfter end at v fault
     → IsChainFault l volumes fault
 fault_after l volumes at v end (WrongCount place) here ok wrong =
-    subst (λ (n : ℕ). IsChainFault l volumes (WrongCount n)) (sym wrong.0)
+    rw wrong.0
     (v, record { first = record { here = here; chain = ok.chain }; count = λ e. wrong.1 (e ∙ sym ok.count) })
 fault_after l volumes at v end (WrongBase place) here ok wrong =
-    subst (λ (n : ℕ). IsChainFault l volumes (WrongBase n)) (sym wrong.0) (
+    rw wrong.0 (
       v,
       record {
         first = record { here = here; chain = ok.chain };
@@ -133,13 +111,13 @@ fault_after l volumes at v end (WrongBase place) here ok wrong =
       },
     )
 fault_after l volumes at v end (Replay place fault) here ok wrong =
-    subst (λ (n : ℕ). IsChainFault l volumes (Replay n fault)) (sym wrong.0) (
+    rw wrong.0 (
       v,
       record {
         first = record { here = here; chain = ok.chain };
         count = wrong.1.count ∙ ok.count;
         base = wrong.1.base ∙ end_shown l (take at volumes) end ok;
-        records = fault_at l volumes at v end fault ok wrong.2;
+        records = rw (ok.layout, ok.state, ok.count) at wrong.2;
         known = wrong.3;
       },
     )
@@ -150,45 +128,29 @@ pub sealed_so : (end next : CourseValue) (v : Volume) (asked : List Record) → 
     → IsCourseOf end.layout end.base end.before asked next
     → started next.layout next.state (last_serial next) ≡ sealed_after end v
 sealed_so end next v asked same course =
-    let count : next.before + length next.history ≡ end.before + length v.records =
-    omega (
-      arith,
-      course.before,
-      ap (λ (h : List Record). length h) course.history,
-      ap (λ (h : List Record). length h) same,
-    ) in
-    ap (λ (m : LayoutParts). started m next.state (last_serial next)) course.layout
-    ∙ (ap (λ (s : Memory). started end.layout s (last_serial next)) course.state
-    ∙ (ap (λ (h : List Record). started end.layout (value_of end.layout end.base h) (last_serial next)) same
-    ∙ ap (started end.layout (value_of end.layout end.base v.records)) count))
+    rw (course.layout, course.state, course.before, course.history, same)
 
 -- the fault of a volume's records
 pub records_fault : (end : CourseValue) (at : ℕ) (v : Volume) (asked : List Record) (fault : ReplayFault)
     → FollowsEnd end v → asked ≡ v.records → IsFault end.layout end.base end.before asked fault
     → IsFaultAfter end at v (chain_fault at fault)
-records_fault end at v asked fault follows same wrong =
-    by_fault fault (subst (λ (g : List Record). IsFault end.layout end.base end.before g fault) same wrong)
-  where
-    by_fault : (f : ReplayFault) → IsFault end.layout end.base end.before v.records f
-        → IsFaultAfter end at v (chain_fault at f)
-    by_fault (WrongReply serial) here = (refl, follows, here, λ e. absurd cc)
-    by_fault (WrongSerial place) here = (refl, follows, here, λ e. absurd cc)
-    by_fault ReplayOutOfMemory here = tt
+records_fault end at v asked (WrongReply serial) follows same wrong =
+    (refl, follows, rw same at wrong, λ e. absurd cc)
+records_fault end at v asked (WrongSerial place) follows same wrong =
+    (refl, follows, rw same at wrong, λ e. absurd cc)
+records_fault end at v asked ReplayOutOfMemory follows same wrong = tt
 
 -- out of memory may come in place of any answer
 pub memory_fault : (end : CourseValue) (at : ℕ) (v : Volume) (fault : ChainFault) → fault ≡ OutOfMemory
     → IsFaultAfter end at v fault
-memory_fault end at v fault is = subst (IsFaultAfter end at v) (sym is) tt
+memory_fault end at v fault is = rw is tt
 
 -- volumes with one at fault do not follow one another
 records_refute : (l : LayoutParts) (s : Memory) (before : ℕ) (h : List Record) (fault : ReplayFault)
     → (fault ≡ ReplayOutOfMemory → ⊥) → Refutes l s before h fault → IsLegal l s before h → ⊥
-records_refute l s before h fault known wrong legal = by_fault fault known wrong
-  where
-    by_fault : (f : ReplayFault) → (f ≡ ReplayOutOfMemory → ⊥) → Refutes l s before h f → ⊥
-    by_fault (WrongReply serial) known wrong = wrong legal
-    by_fault (WrongSerial at) known wrong = wrong legal
-    by_fault ReplayOutOfMemory known wrong = known refl
+records_refute l s before h (WrongReply serial) known wrong legal = wrong legal
+records_refute l s before h (WrongSerial at) known wrong legal = wrong legal
+records_refute l s before h ReplayOutOfMemory known wrong legal = known refl
 
 pub chain_refuted : (l : LayoutParts) (volumes : List Volume) (fault : ChainFault)
     → IsChainFault l volumes fault → RefutesChain l volumes fault

@@ -1,33 +1,26 @@
 -- How a replay goes on by the next record of a list, and where it finds one at fault.
-use Rattle.std.proofs.Common.{◌≡◌, ℕ, ◌+◌, ◌≤◌, List, [], ◌∷◌, ◌++◌, length, take, Some, slice_get, refl, ap, sym, subst, ◌∙◌, arith}
+use Rattle.std.proofs.Common.{◌≡◌, ℕ, ◌+◌, ◌≤◌, List, length, take, Some, slice_get, refl, ap, sym, ◌∙◌, arith}
 use Rattle.std.proofs.lemmas.List.{length-take-le, take_all}
 use Rattle.std.proofs.lemmas.Option.{slice_get_within}
 use Rattle.hp_units.specs.Memory.{Memory}
 use Rattle.hp_units.specs.LayoutParts.{LayoutParts}
-use Rattle.hp_units.specs.History.{Follows, IsLegal, net_of, reply_of, run, value_of}
+use Rattle.hp_units.specs.History.{net_of, run, value_of}
 use Rattle.hp_units.specs.declared.replies.Receipt.{Receipt}
 use Rattle.hp_laws.proofs.Net.{legal_push}
 use Rattle.hp_laws.proofs.Replays.{take_one}
 use Rattle.hp_history.specs.Course.{CourseValue, IsAnswered, last_serial, record_of, started}
 use Rattle.hp_history.specs.Kept.{pictured}
-use Rattle.hp_replays.specs.Replaying.{HasWrongReply, HasWrongSerial, IsCourseOf, IsFault, IsFaultHere, IsFollowed, Refutes}
+use Rattle.hp_replays.specs.Replaying.{IsCourseOf, IsFault, IsFaultHere, IsFollowed, Refutes}
 use Rattle.hp_replays.specs.declared.replaying.ReplayFault.{ReplayFault}
 use Rattle.hp_replays.specs.declared.replaying.ReplayFault.TheVariants.{WrongReply, WrongSerial, OutOfMemory}
-use Rattle.hp_history.proofs.Names.{Event, Record, Reply}
+use Rattle.hp_history.proofs.Names.{Record}
 
 -- ---- one record
-
--- a record of its parts
-abbrev recorded : (serial cpu : ℕ) → Event → Reply → Record
-recorded serial cpu event reply = record { serial = serial; cpu = cpu; event = event; reply = reply }
 
 -- the record with the receipt's reply is the receipt's
 same_record : (r : Record) (a : Receipt) → a.serial ≡ r.serial → a.event ≡ r.event → a.reply ≡ r.reply
     → record_of r.cpu a ≡ r
-same_record r a serial event reply =
-    ap (λ (n : ℕ). recorded n r.cpu a.event a.reply) serial
-    ∙ (ap (λ (e : Event). recorded r.serial r.cpu e a.reply) event
-    ∙ ap (recorded r.serial r.cpu r.event) reply)
+same_record r a serial event reply = rw (serial, event, reply)
 
 -- a record whose serial and reply are those of the answer follows
 pub followed : (old new : CourseValue) (r : Record) (a : Receipt) → r.serial ≡ last_serial old + 1
@@ -35,8 +28,7 @@ pub followed : (old new : CourseValue) (r : Record) (a : Receipt) → r.serial �
 followed old new r a serial answer reply = record {
   follows = record { serial = serial; reply = sym reply ∙ answer.reply };
   history =
-      answer.history ∙ ap (λ (x : Record). old.history ++ x ∷ [])
-      (same_record r a (answer.serial ∙ sym serial) answer.asked reply);
+      rw (answer.history, same_record r a (answer.serial ∙ sym serial) answer.asked reply);
   state = answer.state;
   layout = answer.layout;
   before = answer.before;
@@ -50,12 +42,6 @@ pub another_reply : (old new : CourseValue) (r : Record) (a : Receipt) (at : ℕ
 another_reply old new r a at serial answer differs = (refl, serial, λ e. differs (answer.reply ∙ sym e))
 
 -- ---- a list of records
-
--- a course of no records begins again where it began
-pub started_again : (l : LayoutParts) (base : Memory) (before : ℕ) (c : CourseValue)
-    → c ≡ started l base before → c ≡ started c.layout c.base c.before
-started_again l base before c is =
-    subst (λ (d : CourseValue). d ≡ started d.layout d.base d.before) (sym is) refl
 
 -- the course of no records
 pub starts : (c : CourseValue) (h : List Record) → c ≡ started c.layout c.base c.before
@@ -90,24 +76,17 @@ pub follow_one : (l : LayoutParts) (base : Memory) (before : ℕ) (h : List Reco
     → IsCourseOf l base before (take (at + 1) h) new
 follow_one l base before h at r old new here ok next =
     let longer : new.history ≡ take (at + 1) h =
-    next.history ∙ (ap (λ (g : List Record). g ++ r ∷ []) ok.history ∙ sym (take_one h at r here)) in
+    rw (next.history, ok.history) (sym (take_one h at r here)) in
     record {
       layout = next.layout ∙ ok.layout;
       before = next.before ∙ ok.before;
       base = next.base ∙ ok.base;
       history = longer;
-      legal = rw (take_one h at r here) (legal_push l base before (take at h) r ok.legal follows);
-      state =
-          next.state ∙ (ap (λ (m : LayoutParts). value_of m old.base new.history) ok.layout
-          ∙ (ap (λ (s : Memory). value_of l s new.history) ok.base ∙ ap (value_of l base) longer));
+      legal =
+          rw (take_one h at r here) (legal_push l base before (take at h) r ok.legal
+          (rw (ok.layout, ok.base, ok.before, ok.history) at next.follows));
+      state = rw (next.state, ok.layout, ok.base, longer);
     }
-  where
-    follows : Follows l base before (take at h) r
-    follows =
-        subst (λ (g : List Record). Follows l base before g r) ok.history
-        (subst (λ (n : ℕ). Follows l base n old.history r) ok.before
-        (subst (λ (s : Memory). Follows l s old.before old.history r) ok.base
-        (subst (λ (m : LayoutParts). Follows m old.base old.before old.history r) ok.layout next.follows)))
 
 -- a fault of the record after a course is one of the list
 pub fault_at : (l : LayoutParts) (base : Memory) (before : ℕ) (h : List Record) (at : ℕ) (r : Record)
@@ -115,7 +94,7 @@ pub fault_at : (l : LayoutParts) (base : Memory) (before : ℕ) (h : List Record
     → slice_get h at ≡ Some r → IsCourseOf l base before (take at h) c → IsFaultHere c at r fault
     → IsFault l base before h fault
 fault_at l base before h at r c (WrongSerial place) here ok wrong =
-    subst (λ (n : ℕ). IsFault l base before h (WrongSerial n)) (sym wrong.0) (
+    rw wrong.0 (
       r,
       record {
         first = record { here = here; legal = ok.legal };
@@ -128,47 +107,28 @@ fault_at l base before h at r c (WrongReply serial) here ok wrong = (
   record {
     first = record { here = here; legal = ok.legal };
     serial = wrong.1 ∙ last_before l base before h at r c here ok;
-    reply = λ e. wrong.2 (e ∙ sym (reply_here l base before (take at h) c r.cpu r.event ok));
+    reply = λ e. wrong.2 (rw (ok.layout, ok.base, ok.before, ok.history) e);
   },
   sym wrong.0,
 )
-  where
-    reply_here : (l : LayoutParts) (base : Memory) (before : ℕ) (g : List Record) (c : CourseValue) (cpu : ℕ)
-        (event : Event)
-        → IsCourseOf l base before g c
-        → reply_of c.layout c.base c.before c.history cpu event ≡ reply_of l base before g cpu event
-    reply_here l base before g c cpu event ok =
-        ap (λ (m : LayoutParts). reply_of m c.base c.before c.history cpu event) ok.layout
-        ∙ (ap (λ (s : Memory). reply_of l s c.before c.history cpu event) ok.base
-        ∙ (ap (λ (n : ℕ). reply_of l base n c.history cpu event) ok.before
-        ∙ ap (λ (h : List Record). reply_of l base before h cpu event) ok.history))
 fault_at l base before h at r c OutOfMemory here ok wrong = tt
 
 -- records with one at fault are no legal history
-serial_refutes : (l : LayoutParts) (base : Memory) (before : ℕ) (h : List Record) (at : ℕ) (r : Record)
-    → HasWrongSerial l base before h at r → IsLegal l base before h → ⊥
-serial_refutes l base before h at r wrong legal =
-    wrong.serial (omega (arith, (legal at r wrong.first.here).serial, before_place h at r wrong.first.here))
-
-reply_refutes : (l : LayoutParts) (base : Memory) (before : ℕ) (h : List Record) (at : ℕ) (r : Record)
-    → HasWrongReply l base before h at r → IsLegal l base before h → ⊥
-reply_refutes l base before h at r wrong legal = wrong.reply (legal at r wrong.first.here).reply
-
 pub refutes : (l : LayoutParts) (base : Memory) (before : ℕ) (h : List Record) (fault : ReplayFault)
     → IsFault l base before h fault → Refutes l base before h fault
-refutes l base before h (WrongSerial at) wrong =
-    λ legal. serial_refutes l base before h at wrong.0 wrong.1 legal
+refutes l base before h (WrongSerial at) wrong = λ legal.
+    let here = wrong.1.first.here in
+    wrong.1.serial (omega (arith, (legal at wrong.0 here).serial, before_place h at wrong.0 here))
 refutes l base before h (WrongReply serial) wrong =
-    λ legal. reply_refutes l base before h wrong.0 wrong.1 wrong.2 legal
+    λ legal. wrong.2.reply (legal wrong.0 wrong.1 wrong.2.first.here).reply
 refutes l base before h OutOfMemory wrong = tt
 
 -- the course of all records
 pub whole : (l : LayoutParts) (base : Memory) (before : ℕ) (h : List Record) (at : ℕ) (c : CourseValue)
     → length h ≤ at → IsCourseOf l base before (take at h) c → IsCourseOf l base before h c
-whole l base before h at c le ok =
-    subst (λ (g : List Record). IsCourseOf l base before g c) (take_all at h le) ok
+whole l base before h at c le ok = rw (take_all at h le) at ok
 
 -- its state
 pub shown : (l : LayoutParts) (base : Memory) (before : ℕ) (h : List Record) (c : CourseValue)
     → IsCourseOf l base before h c → pictured c.layout c.state ≡ pictured l (value_of l base h)
-shown l base before h c ok = ap (λ (m : LayoutParts). pictured m c.state) ok.layout ∙ ap (pictured l) ok.state
+shown l base before h c ok = rw (ok.layout, ok.state)

@@ -1,5 +1,5 @@
 -- A text is an address exactly if it is `0x` and 1 to 16 hexadecimal digits.
-use Rattle.std.proofs.Common.{◌≡◌, ℕ, ◌+◌, ◌*◌, ◌<◌, ◌≤◌, Bool, true, false, cond, ◌&&◌, eqb, ltb, List, [], ◌∷◌, ◌++◌, length, drop, Some, None, refl, ap, ◌∙◌, codes, ◌↔◌}
+use Rattle.std.proofs.Common.{◌≡◌, ℕ, ◌+◌, ◌*◌, ◌<◌, ◌≤◌, Bool, true, false, cond, ◌&&◌, eqb, ltb, List, [], ◌∷◌, length, drop, Some, None, refl, codes}
 use Rattle.std.specs.Prelude.{nat_le}
 use Rattle.std.specs.Char.{digit_value}
 use Rattle.std.specs.List.{starts_with}
@@ -8,6 +8,7 @@ use Rattle.std.specs.Str.Parse.{AllDigits, IsNumeral, digits_value, digits_value
 use Rattle.std.proofs.lemmas.Bool.{and_from, and_parts, le-leb, leb-true, lt-ltb, ltb-true}
 use Rattle.std.proofs.lemmas.Bool.Decides.{Decides-eqb}
 use Rattle.std.proofs.lemmas.Slice.Eq.{starts_is}
+use Rattle.hp_requests.specs.Laws.{AddressesAreSpelled}
 use Rattle.hp_requests.specs.Words.{address_of, hex_after, hex_number}
 use Rattle.hp_numbers.proofs.NumbersSpelled.{chosen}
 
@@ -16,8 +17,7 @@ digits_make : (number : ℕ) (bytes : List ℕ) → AllDigits 16 bytes
     → hex_after number bytes ≡ Some (digits_value_after 16 number bytes)
 digits_make number [] h = refl
 digits_make number (byte ∷ bytes) h =
-    let small : ltb (digit_value byte) 16 ≡ true = lt-ltb _ _ h.0 in
-    rw small (digits_make (number * 16 + digit_value byte) bytes h.1)
+    rw (lt-ltb (digit_value byte) 16 h.0) (digits_make (number * 16 + digit_value byte) bytes h.1)
 
 -- a first digit that makes a number is one, if the rest makes its number of digits
 first_made : (test : Bool) (number byte : ℕ) (bytes : List ℕ) (made : ℕ)
@@ -43,9 +43,8 @@ number_is : (digits : List ℕ) → IsNumeral 16 digits → length digits ≤ 16
     → hex_number digits ≡ Some (digits_value 16 digits)
 unfolding hex_number
 number_is digits numeral few =
-    let test : (ltb 0 (length digits) && nat_le (length digits) 16) ≡ true =
-    and_from _ _ (lt-ltb _ _ numeral.0) (le-leb _ _ few) in
-    rw test (digits_make 0 digits numeral.1)
+    rw (and_from (ltb 0 (length digits)) (nat_le (length digits) 16) (lt-ltb _ _ numeral.0) (le-leb _ _ few))
+    (digits_make 0 digits numeral.1)
 
 -- and what is a number is such digits
 number_named : (digits : List ℕ) (number : ℕ) → hex_number digits ≡ Some number
@@ -57,28 +56,14 @@ number_named digits number e =
     let written = made_of_digits 0 digits number made.1 in
     ((ltb-true _ _ tests.0, written.0), leb-true _ _ tests.1, written.1)
 
--- an address is `0x` and such digits
-address_named : (text : List ℕ) (address : ℕ) → address_of text ≡ Some address
-    → (digits : List ℕ) × (text ≡ codes "0x" ++ digits) × IsNumeral 16 digits × (length digits ≤ 16)
-    × (digits_value 16 digits ≡ address)
+-- an address is `0x` and such digits, and the other way round
+pub addresses_law : AddressesAreSpelled
 unfolding address_of
-address_named text address e =
-    let made = chosen (starts_with eqb text (codes "0x")) (hex_number (drop 2 text)) address e in
-    let split = (starts_is Decides-eqb text (codes "0x") (starts_with eqb text (codes "0x")) refl).0 made.0 in
-    let number = number_named (drop 2 text) address made.1 in
-    (drop 2 text, split, number.0, number.1, number.2)
-
--- and `0x` and such digits are an address
-address_is : (text : List ℕ) (address : ℕ)
-    → ((digits : List ℕ) × (text ≡ codes "0x" ++ digits) × IsNumeral 16 digits × (length digits ≤ 16)
-    × (digits_value 16 digits ≡ address))
-    → address_of text ≡ Some address
-unfolding address_of
-address_is text address w =
-    ap address_of w.1 ∙ number_is w.0 w.2 w.3 ∙ ap (λ (n : ℕ). Some n) w.4
-
--- both directions
-pub addresses_law : (text : List ℕ) (address : ℕ)
-    → (address_of text ≡ Some address) ↔ ((digits : List ℕ) × (text ≡ codes "0x" ++ digits)
-    × IsNumeral 16 digits × (length digits ≤ 16) × (digits_value 16 digits ≡ address))
-addresses_law text address = (address_named text address, address_is text address)
+addresses_law text address = (
+  λ e. let made = chosen (starts_with eqb text (codes "0x")) (hex_number (drop 2 text)) address e in
+      let split =
+      (starts_is Decides-eqb text (codes "0x") (starts_with eqb text (codes "0x")) refl).0 made.0 in
+      let number = number_named (drop 2 text) address made.1 in
+      (drop 2 text, split, number.0, number.1, number.2),
+  λ w. rw (w.1, number_is w.0 w.2 w.3, w.4),
+)

@@ -1,5 +1,5 @@
 -- A path stands for a file of a memory block exactly if it is spelled as one.
-use Rattle.std.proofs.Common.{◌≡◌, ℕ, suc, ◌+◌, ◌^◌, ◌<◌, ◌≤◌, Bool, true, false, cond, eqb, ltb, List, [], ◌∷◌, ◌++◌, length, get_or, take, drop, Option, Some, None, refl, sym, ap, ◌∙◌, arith, add-one, codes, ◌↔◌, drop-cons}
+use Rattle.std.proofs.Common.{◌≡◌, ℕ, ◌+◌, ◌^◌, ◌<◌, ◌≤◌, Bool, true, false, cond, eqb, ltb, List, [], ◌∷◌, ◌++◌, length, get_or, take, drop, Option, Some, None, refl, sym, ap, ◌∙◌, arith, add-one, codes, drop-cons}
 use Rattle.std.specs.Fmt.{decimal}
 use Rattle.std.specs.List.{AllByRecursion, position_or_len, starts_with}
 use Rattle.std.specs.Option.{option_and_then, option_map}
@@ -11,10 +11,11 @@ use Rattle.std.proofs.lemmas.Bool.Decides.{Decides-eqb}
 use Rattle.std.proofs.lemmas.Fmt.{decimal_is_IsNumeral}
 use Rattle.std.proofs.lemmas.List.{take-append-drop, length-append}
 use Rattle.std.proofs.lemmas.List.Sums.{passes_at_first}
+use Rattle.std.proofs.lemmas.Option.{same_Some}
 use Rattle.std.proofs.lemmas.Slice.Eq.{bytes_eq-Decides, starts_is}
 use Rattle.std.proofs.lemmas.Str.Parse.{digit_from_value}
 use Rattle.hp_requests.specs.Files.{block_file_named, file_at, file_of_block, halves_of}
-use Rattle.hp_requests.specs.Laws.{block_path, file_name}
+use Rattle.hp_requests.specs.Laws.{BlockPathsAreSpelled, block_path, file_name}
 use Rattle.hp_requests.specs.Names.{File, BlockSizeBytes, Buddyinfo, Probe, AutoOnlineBlocks, OfBlock, BlockFile, StateFile, OnlineFile, ZonesFile, RemovableFile}
 use Rattle.hp_numbers.specs.NumberWords.{number_of}
 use Rattle.hp_requests.specs.Words.{block_named}
@@ -49,51 +50,32 @@ slash_at : (front rest : List ℕ) → AllByRecursion (λ byte. eqb byte 47 ≡ 
 slash_at [] rest h = refl
 slash_at (byte ∷ front) rest h = rw h.0 (omega (arith, slash_at front rest h.1))
 
--- a text is cut at its first slash
-cut_at : (n : ℕ) (path front rest : List ℕ) → position_or_len (λ byte. eqb byte 47) path ≡ n → n < length path
-    → take n path ≡ front → drop (n + 1) path ≡ rest → halves_of path ≡ Some (front, rest)
-unfolding halves_of
-cut_at n path front rest place within before after =
-    let found : ltb (position_or_len (λ byte. eqb byte 47) path) (length path) ≡ true =
-    lt-ltb _ _ (omega arith) in
-    rw (found, place, before, after) refl
-
 -- a text without a slash, a slash and a text are cut at that slash
 halves_at : (front rest : List ℕ) → AllByRecursion (λ byte. eqb byte 47 ≡ false) front
     → halves_of (front ++ 47 ∷ rest) ≡ Some (front, rest)
+unfolding halves_of
 halves_at front rest h =
-    cut_at (length front) (front ++ 47 ∷ rest) front rest (slash_at front rest h)
-    (omega (arith, length-append front (47 ∷ rest)))
-    (take-append_seam front (47 ∷ rest)) (drop-append-add front (47 ∷ rest) 1)
-
--- the text before the slash
-abbrev before : Option (List ℕ × List ℕ) → List ℕ
-before None = []
-before (Some halves) = halves.0
-
--- the text after the slash
-abbrev behind : Option (List ℕ × List ℕ) → List ℕ
-behind None = []
-behind (Some halves) = halves.1
+    let within : length front < length (front ++ 47 ∷ rest) =
+    omega (arith, length-append front (47 ∷ rest)) in
+    rw (slash_at front rest h, lt-ltb _ _ within, take-append_seam front (47 ∷ rest))
+    (rw (drop-append-add front (47 ∷ rest) 1))
 
 -- a list is what comes before a place, the element there, and what comes after it
 whole : (path : List ℕ) (n byte : ℕ) → n < length path → get_or path n 0 ≡ byte
     → path ≡ take n path ++ byte ∷ drop (n + 1) path
 whole path n byte within there =
-    sym (take-append-drop n path) ∙ ap (λ (bytes : List ℕ). take n path ++ bytes) (drop-cons path n 0 within)
-    ∙ ap (λ (b : ℕ). take n path ++ b ∷ drop (suc n) path) there
-    ∙ ap (λ (k : ℕ). take n path ++ byte ∷ drop k path) (sym (add-one n))
+    rw (add-one n, ← there, ← drop-cons path n 0 within) (sym (take-append-drop n path))
 
 -- what is cut is the whole with its slash
-halves_join : (path front rest : List ℕ) → halves_of path ≡ Some (front, rest) → path ≡ front ++ 47 ∷ rest
+halves_join : (path : List ℕ) (halves : List ℕ × List ℕ) → halves_of path ≡ Some halves
+    → path ≡ halves.0 ++ 47 ∷ halves.1
 unfolding halves_of
-halves_join path front rest e =
+halves_join path halves e =
     let n : ℕ = position_or_len (λ byte. eqb byte 47) path in
-    let cut = chosen (ltb n (length path)) (Some (take n path, drop (n + 1) path)) (front, rest) e in
+    let cut = chosen (ltb n (length path)) (Some (take n path, drop (n + 1) path)) halves e in
     let within : n < length path = ltb-true _ _ cut.0 in
     let slash : get_or path n 0 ≡ 47 = eqb-true _ _ (passes_at_first (λ byte. eqb byte 47) path 0 within) in
-    whole path n 47 within slash ∙ ap (λ (bytes : List ℕ). bytes ++ 47 ∷ drop (n + 1) path) (ap before cut.1)
-    ∙ ap (λ (bytes : List ℕ). front ++ 47 ∷ bytes) (ap behind cut.1)
+    rw (← same_Some _ _ cut.1) (whole path n 47 within slash)
 
 -- ---- the directory
 
@@ -111,7 +93,7 @@ directory_named name block e =
     let split =
     (starts_is Decides-eqb name (codes "memory") (starts_with eqb name (codes "memory")) refl).0 made.0 in
     let number = is_spelled 32 (drop 6 name) block (omega arith) made.1 in
-    (split ∙ ap (λ (bytes : List ℕ). codes "memory" ++ bytes) number.0, number.1)
+    (rw (← number.0) split, number.1)
 
 -- ---- the file's name
 
@@ -161,12 +143,8 @@ from_halves : (path : List ℕ) (halves : Option (List ℕ × List ℕ)) → hal
 from_halves path None cut block file e = absurd cc
 from_halves path (Some h) cut block file e =
     let named = both_named (block_named h.0) (block_file_named h.1) block file e in
-    let directory = directory_named h.0 block named.0 in (
-      halves_join path h.0 h.1 cut ∙ ap (λ (bytes : List ℕ). bytes ++ 47 ∷ h.1) directory.0 ∙ ap
-          (λ (bytes : List ℕ). (codes "memory" ++ decimal block) ++ 47 ∷ bytes)
-          (name_named h.1 file named.1),
-      directory.1,
-    )
+    let directory = directory_named h.0 block named.0 in
+    (rw (directory.0, name_named h.1 file named.1) at (halves_join path h cut), directory.1)
 
 -- a file that was not the first of the choices is one of the others
 not_first : (test : Bool) (first : File) (others : Option File) (file : File)
@@ -179,20 +157,9 @@ path_named : (path : List ℕ) (block : ℕ) (file : BlockFile) → file_at path
     → (path ≡ block_path block file) × (block < 2 ^ 32)
 unfolding file_at
 path_named path block file e =
-    let a =
-    not_first (bytes_eq path (codes "block_size_bytes")) BlockSizeBytes _ (OfBlock block file) e
-    (λ h. cc) in
-    let b = not_first (bytes_eq path (codes "buddyinfo")) Buddyinfo _ (OfBlock block file) a (λ h. cc) in
-    let c = not_first (bytes_eq path (codes "probe")) Probe _ (OfBlock block file) b (λ h. cc) in
-    let d =
-    not_first (bytes_eq path (codes "auto_online_blocks")) AutoOnlineBlocks _ (OfBlock block file) c
-    (λ h. cc) in
-    from_halves path (halves_of path) refl block file d
-
--- the file of a block by its directory and its name
-file_is : (block : ℕ) (file : BlockFile) → block < 2 ^ 32
-    → file_of_block (codes "memory" ++ decimal block) (file_name file) ≡ Some (OfBlock block file)
-file_is block file small = rw (directory_is block small, name_is file) refl
+    from_halves path (halves_of path) refl block file
+    (not_first _ AutoOnlineBlocks _ _ (not_first _ Probe _ _ (not_first _ Buddyinfo _ _
+    (not_first _ BlockSizeBytes _ _ e (λ h. cc)) (λ h. cc)) (λ h. cc)) (λ h. cc))
 
 -- and a path that is spelled so stands for the file
 path_is : (block : ℕ) (file : BlockFile) → block < 2 ^ 32
@@ -200,9 +167,8 @@ path_is : (block : ℕ) (file : BlockFile) → block < 2 ^ 32
 unfolding file_at
 path_is block file small =
     ap (option_and_then (λ h. file_of_block h.0 h.1)) (halves_at (codes "memory" ++ decimal block)
-    (file_name file) (directory_no_slash block (omega arith))) ∙ file_is block file small
+    (file_name file) (directory_no_slash block (omega arith))) ∙ rw (directory_is block small, name_is file)
 
 -- both directions
-pub paths_law : (path : List ℕ) (block : ℕ) (file : BlockFile)
-    → (file_at path ≡ Some (OfBlock block file)) ↔ ((path ≡ block_path block file) × (block < 2 ^ 32))
+pub paths_law : BlockPathsAreSpelled
 paths_law path block file = (path_named path block file, λ h. ap file_at h.0 ∙ path_is block file h.1)

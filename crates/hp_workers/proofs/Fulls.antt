@@ -1,11 +1,11 @@
 -- Where a line ended at a full history, all records reach the limit.
-use Rattle.std.proofs.Common.{◌≡◌, ℕ, zero, suc, ◌+◌, ◌<◌, ◌≤◌, List, [], ◌∷◌, length, take, Option, Some, None, slice_get, get_or, refl, ap, sym, subst, ◌∙◌, arith, inl, inr}
+use Rattle.std.proofs.Common.{◌≡◌, ℕ, zero, suc, ◌<◌, ◌≤◌, List, [], ◌∷◌, length, take, Option, Some, None, slice_get, get_or, ap, sym, subst, ◌∙◌, arith, inl, inr}
 use Rattle.std.specs.List.{All, last_or}
 use Rattle.std.specs.Option.{option_and_then}
 use Rattle.std.proofs.lemmas.List.Elements.{All-get_or}
 use Rattle.std.proofs.lemmas.Option.{slice_get-get_or, slice_get_within}
 use Rattle.hp_laws.proofs.Lists.{get_some}
-use Rattle.hp_units.specs.Driver.{Ends, cause_of, end_after, end_of, next_event, operation_of}
+use Rattle.hp_units.specs.Driver.{Ends, cause_of, end_after, next_event, operation_of}
 use Rattle.hp_units.specs.LayoutParts.{LayoutParts}
 use Rattle.hp_units.specs.declared.events.Event.{Event}
 use Rattle.hp_units.specs.declared.events.Event.TheVariants.{Begin, Cancel, Commit}
@@ -21,12 +21,12 @@ use Rattle.hp_units.specs.declared.replies.Reply.TheVariants.{Done, Refused, Rel
 use Rattle.hp_history.specs.declared.volumes.Volume.{Volume}
 use Rattle.hp_scenario.specs.Asked as asks
 use Rattle.hp_scenario.specs.declared.lines.Line.{Line}
-use Rattle.hp_shared.specs.Shared.{HasReached, IsReached, SeatValue}
+use Rattle.hp_shared.specs.Shared.{HasReached, SeatValue}
 use Rattle.hp_shared.specs.SeatPorts.{AreTurns}
 use Rattle.hp_shared.proofs.Comparisons.{same_item}
 use Rattle.hp_workers.specs.declared.fault.RunFault.{RunFault}
 use Rattle.hp_workers.specs.declared.lines.LineEnd.{LineEnd}
-use Rattle.hp_workers.specs.declared.lines.LineEnd.TheVariants.{Reply as Replied, Fault as Faulted, Plan as Planned, Control as Untaken, Sealed}
+use Rattle.hp_workers.specs.declared.lines.LineEnd.TheVariants.{Reply as Replied, Fault as Faulted, Plan as Planned, Sealed}
 use Rattle.hp_workers.specs.Lines.{AreLines, EndsFull, IsAskedRun, IsCallsRun, IsLine, IsSealRun, left_with}
 use Rattle.hp_workers.specs.Workers.{AreWorkers, ReachWhereFull}
 
@@ -62,27 +62,20 @@ asked_fault : (cpus : ℕ) (asked : asks.Meaning) (gained : List Receipt) (fault
     → IsAskedRun cpus asked gained fault end → EndsFull end → fault ≡ Some HistoryFull
 asked_fault cpus (asks.event e) gained fault (Replied reply) ran full = absurd full
 asked_fault cpus (asks.event e) gained fault (Faulted named) ran full = ran.1 ∙ ap Some full
-asked_fault cpus (asks.event e) gained fault (Planned end) ran full = absurd ran
-asked_fault cpus (asks.event e) gained fault (Untaken why) ran full = absurd ran
-asked_fault cpus (asks.event e) gained fault (Sealed count) ran full = absurd ran
-asked_fault cpus (asks.plan items turns) gained fault (Replied reply) ran full = absurd ran
-asked_fault cpus (asks.plan items turns) gained fault (Faulted named) ran full = absurd ran
+asked_fault cpus (asks.event e) gained fault _ ran full = absurd ran
 asked_fault cpus (asks.plan items turns) gained fault (Planned end) (inl run) full =
     plan_fault (next_event cpus turns items gained) gained fault end full.0 run.ends full.1
 asked_fault cpus (asks.plan items turns) gained fault (Planned end) (inr unasked) full =
     let bad : Left None OutOfMemory ≡ Left full.0 HistoryFull = sym unasked.left ∙ full.1 in absurd cc
-asked_fault cpus (asks.plan items turns) gained fault (Untaken why) ran full = absurd ran
-asked_fault cpus (asks.plan items turns) gained fault (Sealed count) ran full = absurd ran
-asked_fault cpus (asks.not_taken why) gained fault end ran full =
-    absurd (subst EndsFull ran.2 full)
-asked_fault cpus (asks.cat path) gained fault end ran full = absurd ran
-asked_fault cpus asks.seal gained fault end ran full = absurd ran
+asked_fault cpus (asks.plan items turns) gained fault _ ran full = absurd ran
+asked_fault cpus (asks.not_taken why) gained fault end ran full = absurd (rw ran.2 at full)
+asked_fault cpus _ gained fault end ran full = absurd ran
 
 -- ---- what a seat counts
 
 turns_keep : (l : LayoutParts) (gained : List Receipt) (old new : SeatValue) → AreTurns l old gained new
     → new.fulls ≡ old.fulls
-turns_keep l [] old new turns = ap (λ (s : SeatValue). s.fulls) turns
+turns_keep l [] old new turns = rw turns
 turns_keep l (r ∷ rs) old new turns = turns_keep l rs turns.0 new turns.2 ∙ turns.1.fulls
 
 left_grows : (seat : SeatValue) (fault : Option CallFault) → seat.fulls ≤ (left_with seat fault).fulls
@@ -93,39 +86,26 @@ left_grows seat (Some OutOfMemory) = omega arith
 calls_grow : (l : LayoutParts) (old new : SeatValue) (asked : asks.Meaning) (end : LineEnd)
     → IsCallsRun l old asked end new → old.fulls ≤ new.fulls
 calls_grow l old new asked end run =
-    omega (
-      arith,
-      turns_keep l run.gained old run.called run.turns,
-      left_grows run.called run.fault,
-      ap (λ (s : SeatValue). s.fulls) run.left,
-    )
+    rw run.left
+    (omega (arith, turns_keep l run.gained old run.called run.turns, left_grows run.called run.fault))
 
 calls_full : (l : LayoutParts) (old new : SeatValue) (asked : asks.Meaning) (end : LineEnd)
     → IsCallsRun l old asked end new → EndsFull end → 0 < new.fulls
 calls_full l old new asked end run full =
-    let fault = asked_fault l.cpus asked run.gained run.fault end run.line full in
-    omega (
-      arith,
-      ap (λ (s : SeatValue). s.fulls) run.left,
-      ap (λ (o : Option CallFault). (left_with run.called o).fulls) fault,
-    )
+    rw (run.left, asked_fault l.cpus asked run.gained run.fault end run.line full) (omega arith)
 
 seal_grows : (l : LayoutParts) (old new : SeatValue) (handed : List Volume) (end : LineEnd)
     → IsSealRun l old handed end new → old.fulls ≤ new.fulls
-seal_grows l old new handed (Replied reply) ran = absurd ran
-seal_grows l old new handed (Faulted named) ran = omega (arith, ap (λ (s : SeatValue). s.fulls) ran.2)
-seal_grows l old new handed (Planned end) ran = absurd ran
-seal_grows l old new handed (Untaken why) ran = absurd ran
-seal_grows l old new handed (Sealed count) ran = omega (arith, ap (λ (s : SeatValue). s.fulls) ran.4)
+seal_grows l old new handed (Faulted named) ran = rw ran.2 (omega arith)
+seal_grows l old new handed (Sealed count) ran = rw ran.4 (omega arith)
+seal_grows l old new handed _ ran = absurd ran
 
 seal_full : (l : LayoutParts) (old new : SeatValue) (handed : List Volume) (end : LineEnd)
     → IsSealRun l old handed end new → EndsFull end → ⊥
-seal_full l old new handed (Replied reply) ran full = absurd full
 seal_full l old new handed (Faulted named) ran full =
     let bad : OutOfMemory ≡ HistoryFull = sym ran.1 ∙ full in absurd cc
 seal_full l old new handed (Planned end) ran full = absurd ran
-seal_full l old new handed (Untaken why) ran full = absurd full
-seal_full l old new handed (Sealed count) ran full = absurd full
+seal_full l old new handed _ ran full = absurd full
 
 line_grows : (l : LayoutParts) (old new : SeatValue) (asked : asks.Meaning) (handed : List Volume)
     (end : LineEnd)
@@ -142,7 +122,7 @@ line_full l old new asked handed end (inr ran) full = absurd (seal_full l old ne
 lines_grow : (l : LayoutParts) (lines : List Line) (old new : SeatValue) (handed : List Volume)
     (ends : List LineEnd)
     → AreLines l old lines handed ends new → old.fulls ≤ new.fulls
-lines_grow l [] old new handed ends none = omega (arith, ap (λ (s : SeatValue). s.fulls) none.2)
+lines_grow l [] old new handed ends none = rw none.2 (omega arith)
 lines_grow l (line ∷ lines) old new handed ends ran =
     omega (
       arith,
@@ -154,18 +134,17 @@ lines_full : (l : LayoutParts) (lines : List Line) (old new : SeatValue) (handed
     (ends : List LineEnd) (at : ℕ) (end : LineEnd)
     → AreLines l old lines handed ends new → slice_get ends at ≡ Some end → EndsFull end → 0 < new.fulls
 lines_full l [] old new handed ends at end none here full =
-    let bad : None ≡ Some end = ap (λ (es : List LineEnd). slice_get es at) (sym none.1) ∙ here in absurd cc
+    let bad : None ≡ Some end = rw none.1 at here in absurd cc
 lines_full l (line ∷ lines) old new handed ends zero end ran here full =
-    let first : Some ran.2 ≡ Some end = ap (λ (es : List LineEnd). slice_get es 0) (sym ran.6) ∙ here in
+    let first : Some ran.2 ≡ Some end = rw ran.6 at here in
     let own : ran.2 ≡ end = cc in
     omega (
       arith,
-      line_full l old ran.0 (asks.asked_by line.work) ran.1 ran.2 ran.7.0 (subst EndsFull (sym own) full),
+      line_full l old ran.0 (asks.asked_by line.work) ran.1 ran.2 ran.7.0 (rw own full),
       lines_grow l lines ran.0 new ran.3 ran.4 ran.7.1,
     )
 lines_full l (line ∷ lines) old new handed ends (suc at) end ran here full =
-    lines_full l lines ran.0 new ran.3 ran.4 at end ran.7.1
-    (ap (λ (es : List LineEnd). slice_get es (suc at)) (sym ran.6) ∙ here) full
+    lines_full l lines ran.0 new ran.3 ran.4 at end ran.7.1 (rw ran.6 at here) full
 
 -- after a run of seats that found the history full only where all records reach the limit
 pub reach_where_full : (l : LayoutParts) (olds : List SeatValue) (scripts : List (List Line))
@@ -182,7 +161,7 @@ reach_where_full l olds scripts news volumes lists fault all workers within reac
     let same = same_item (slice_get lists cpu) found.own own found.end here in
     let some =
     lines_full l (take (length found.own) script.0) old.0 found.new found.handed found.own at end
-    found.worker.worked.ran (ap (λ (es : List LineEnd). slice_get es at) same ∙ there) full in
+    found.worker.worked.ran (rw same there) full in
     let placed = slice_get_within news cpu found.new found.seat in
     let read =
     same_item (slice_get news cpu) (get_or news cpu found.new) found.new

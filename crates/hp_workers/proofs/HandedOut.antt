@@ -17,14 +17,14 @@ use Rattle.hp_shared.specs.SeatPorts.{AreTurns}
 use Rattle.hp_shared.proofs.Comparisons.{same_item}
 use Rattle.hp_workers.specs.declared.fault.RunFault.{RunFault}
 use Rattle.hp_workers.specs.declared.lines.LineEnd.{LineEnd}
-use Rattle.hp_workers.specs.declared.lines.LineEnd.TheVariants.{Reply as Replied, Fault as Faulted, Plan as Planned, Control as Untaken, Sealed}
+use Rattle.hp_workers.specs.declared.lines.LineEnd.TheVariants.{Fault as Faulted, Sealed}
 use Rattle.hp_workers.specs.Lines.{AreLines, IsLine, IsSealRun, left_with}
 use Rattle.hp_workers.specs.Seals.{joined}
 use Rattle.hp_workers.specs.Workers.{AreWorkers}
 
 turns_count : (l : LayoutParts) (gained : List Receipt) (old new : SeatValue) → AreTurns l old gained new
     → new.sealed ≡ old.sealed
-turns_count l [] old new turns = ap (λ (s : SeatValue). s.sealed) turns
+turns_count l [] old new turns = rw turns
 turns_count l (r ∷ rs) old new turns = turns_count l rs turns.0 new turns.2 ∙ turns.1.sealed
 
 left_counts : (seat : SeatValue) (fault : Option CallFault) → (left_with seat fault).sealed ≡ seat.sealed
@@ -34,48 +34,30 @@ left_counts seat (Some OutOfMemory) = refl
 
 seal_counts : (l : LayoutParts) (old new : SeatValue) (handed : List Volume) (end : LineEnd)
     → IsSealRun l old handed end new → new.sealed ≡ old.sealed + records_in handed
-seal_counts l old new handed (Replied reply) ran = absurd ran
-seal_counts l old new handed (Faulted named) ran =
-    omega
-    (arith, ap (λ (s : SeatValue). s.sealed) ran.2, ap (λ (vs : List Volume). records_in vs) ran.0)
-seal_counts l old new handed (Planned end) ran = absurd ran
-seal_counts l old new handed (Untaken why) ran = absurd ran
+seal_counts l old new handed (Faulted named) ran = rw (ran.2, ran.0) (omega arith)
 seal_counts l old new handed (Sealed count) ran =
-    omega (
-      arith,
-      ap (λ (s : SeatValue). s.sealed) ran.4,
-      ap (λ (vs : List Volume). records_in vs) ran.1,
-      sum_by-cons (λ (v : Volume). length v.records) ran.0 [],
-    )
+    rw (ran.4, ran.1) (omega (arith, sum_by-cons (λ (v : Volume). length v.records) ran.0 []))
+seal_counts l old new handed _ ran = absurd ran
 
 line_counts : (l : LayoutParts) (old new : SeatValue) (asked : Meaning) (handed : List Volume)
     (end : LineEnd)
     → IsLine l old asked handed end new → new.sealed ≡ old.sealed + records_in handed
 line_counts l old new asked handed end (inl ran) =
-    omega (
-      arith,
-      ap (λ (s : SeatValue). s.sealed) ran.1.left,
-      left_counts ran.1.called ran.1.fault,
-      turns_count l ran.1.gained old ran.1.called ran.1.turns,
-      ap (λ (vs : List Volume). records_in vs) ran.0,
-    )
+    let run = ran.1 in
+    rw (ran.0, run.left)
+    (omega (arith, left_counts run.called run.fault, turns_count l run.gained old run.called run.turns))
 line_counts l old new asked handed end (inr ran) = seal_counts l old new handed end ran.1
 
 lines_count : (l : LayoutParts) (lines : List Line) (old new : SeatValue) (handed : List Volume)
     (ends : List LineEnd)
     → AreLines l old lines handed ends new → new.sealed ≡ old.sealed + records_in handed
-lines_count l [] old new handed ends none =
-    omega (
-      arith,
-      ap (λ (s : SeatValue). s.sealed) none.2,
-      ap (λ (vs : List Volume). records_in vs) none.0,
-    )
+lines_count l [] old new handed ends none = rw (none.2, none.0) (omega arith)
 lines_count l (line ∷ lines) old new handed ends ran =
     omega (
       arith,
       line_counts l old ran.0 (asked_by line.work) ran.1 ran.2 ran.7.0,
       lines_count l lines ran.0 new ran.3 ran.4 ran.7.1,
-      ap (λ (vs : List Volume). records_in vs) ran.5,
+      ap records_in ran.5,
       sum_by-append (λ (v : Volume). length v.records) ran.1 ran.3,
     )
 
@@ -103,8 +85,7 @@ pub workers_count : (l : LayoutParts) (olds : List SeatValue) (scripts : List (L
     → ((place : ℕ) (seat : SeatValue) → slice_get olds place ≡ Some seat → seat.sealed ≡ 0)
     → handed_in news ≡ records_in volumes
 workers_count l olds scripts news volumes lists fault workers within none =
-    counted_all news workers.handed (workers.outs ∙ sym workers.seats) each
-    ∙ ap (λ (vs : List Volume). records_in vs) (sym workers.all)
+    rw workers.all (counted_all news workers.handed (workers.outs ∙ sym workers.seats) each)
   where
     each : (place : ℕ) (seat : SeatValue) (handed : List Volume) → slice_get news place ≡ Some seat
         → slice_get workers.handed place ≡ Some handed → seat.sealed ≡ records_in handed
@@ -118,10 +99,4 @@ workers_count l olds scripts news volumes lists fault workers within none =
         let counted =
         lines_count l (take (length found.own) script.0) old.0 found.new found.handed found.own
         found.worker.worked.ran in
-        omega (
-          arith,
-          counted,
-          none place old.0 old.1,
-          ap (λ (s : SeatValue). s.sealed) same_seat,
-          ap (λ (vs : List Volume). records_in vs) same_out,
-        )
+        rw (← same_out, ← same_seat) (omega (arith, counted, none place old.0 old.1))

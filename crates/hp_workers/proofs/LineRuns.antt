@@ -1,5 +1,5 @@
 -- Lines, one after another.
-use Rattle.std.proofs.Common.{◌≡◌, ℕ, List, [], ◌∷◌, ◌++◌, length, take, Option, Some, None, slice_get, refl, ap, sym, subst, ◌∙◌, arith, add-one, inl, inr}
+use Rattle.std.proofs.Common.{◌≡◌, ℕ, List, [], ◌∷◌, ◌++◌, length, take, Option, Some, None, slice_get, refl, ap, subst, ◌∙◌, arith, add-one, inl, inr}
 use Rattle.std.specs.Prelude.{IfSome}
 use Rattle.std.proofs.lemmas.List.{append_assoc, append-nil, length-append}
 use Rattle.std.proofs.lemmas.Option.{slice_get_within}
@@ -15,7 +15,7 @@ use Rattle.hp_history.specs.declared.volumes.Volume.{Volume}
 use Rattle.hp_shared.specs.Shared.{MayBeFull, SeatValue, left_by}
 use Rattle.hp_shared.specs.SeatPorts.{AreTurns}
 use Rattle.hp_workers.specs.declared.lines.LineEnd.{LineEnd}
-use Rattle.hp_workers.specs.declared.lines.LineEnd.TheVariants.{Reply as Replied, Fault as Faulted, Plan as Planned, Control as Untaken, Sealed}
+use Rattle.hp_workers.specs.declared.lines.LineEnd.TheVariants.{Fault as Faulted, Sealed}
 use Rattle.hp_workers.specs.Lines.{AreLines, IsAskedRun, IsCallsRun, IsLine, IsLineRun, IsSealRun, IsWorked, left_with}
 
 -- the last call's fault has its cause
@@ -40,13 +40,6 @@ seat_made l makes leaves old new gained (Some fault) made name seat as_turns as_
     let left = as_left made.0 new fault made.2 in
     (left.0 ∙ turns.0, seat made.0, turns.1, left.1, left.2)
 
--- a full history that the last call left has its cause
-caused_by : (l : LayoutParts) (seat : SeatValue) (fault : Option CallFault)
-    → IfSome fault (FaultCaused l seat) → fault ≡ Some HistoryFull → MayBeFull l seat
-caused_by l seat fault caused named =
-    let here : FaultCaused l seat HistoryFull =
-    subst (λ (o : Option CallFault). IfSome o (FaultCaused l seat)) named caused in here refl
-
 -- a line was run by the seat that a port had
 pub line_run : (l : LayoutParts) (old first called last new : SeatValue) (asked : Meaning)
     (gained : List Receipt) (fault : Option CallFault) (end : LineEnd)
@@ -54,16 +47,15 @@ pub line_run : (l : LayoutParts) (old first called last new : SeatValue) (asked 
     → IsAskedRun l.cpus asked gained fault end → IfSome fault (FaultCaused l called)
     → IsCallsRun l old asked end new
 line_run l old first called last new asked gained fault end first_is new_is turns left ran caused =
-    subst (λ (s : SeatValue). IsCallsRun l s asked end new) first_is
-    (subst (λ (s : SeatValue). IsCallsRun l first asked end s) (sym new_is) (record {
+    rw (← first_is, new_is) (record {
       gained = gained;
       fault = fault;
       called = called;
       turns = turns;
       left = left;
       line = ran;
-      caused = caused_by l called fault caused;
-    }))
+      caused = λ named. let here : FaultCaused l called HistoryFull = rw named at caused in here refl;
+    })
 
 -- one more line
 lines_more : (l : LayoutParts) (lines : List Line) (line : Line) (old mid new : SeatValue)
@@ -76,8 +68,8 @@ lines_more l [] line old mid new handed out ends end none ran = (
   end,
   [],
   [],
-  ap (λ (vs : List Volume). vs ++ out) none.0 ∙ sym (append-nil out),
-  ap (λ (es : List LineEnd). es ++ end ∷ []) none.1,
+  rw (none.0, append-nil out),
+  rw none.1,
   (subst (λ (s : SeatValue). IsLine l s (asked_by line.work) out end new) none.2 ran, (refl, refl, refl)),
 )
 lines_more l (x ∷ lines) line old mid new handed out ends end before ran =
@@ -87,8 +79,8 @@ lines_more l (x ∷ lines) line old mid new handed out ends end before ran =
       before.2,
       before.3 ++ out,
       before.4 ++ end ∷ [],
-      ap (λ (vs : List Volume). vs ++ out) before.5 ∙ append_assoc before.1 before.3 out,
-      ap (λ (es : List LineEnd). es ++ end ∷ []) before.6,
+      rw before.5 (append_assoc before.1 before.3 out),
+      rw before.6,
       (before.7.0, later),
     )
 
@@ -99,17 +91,14 @@ pub worked_next : (l : LayoutParts) (old mid new : SeatValue) (lines : List Line
     → IsWorked l old lines mid before ends → IsLineRun l mid before (asked_by line.work) end new after
     → IsWorked l old lines new after more
 worked_next l old mid new lines line before after ends more end here is worked run =
-    subst (λ (vs : List Volume). IsWorked l old lines new vs more) (sym run.kept)
-    (subst (IsWorked l old lines new (before ++ run.handed)) (sym is) (record {
+    rw (run.kept, is) (record {
       ran =
-          subst (λ (ls : List Line).
-          AreLines l old ls (before ++ run.handed) (ends ++ end ∷ []) new) (sym taken)
-          (lines_more l (take (length ends) lines) line old mid new before run.handed ends end worked.ran
-          run.line);
+          rw taken (lines_more l (take (length ends) lines) line old mid new before run.handed ends end
+          worked.ran run.line);
       within =
           (let inside = slice_get_within lines (length ends) line here in
           omega (arith, length-append ends (end ∷ []), inside));
-    }))
+    })
   where
     taken : take (length (ends ++ end ∷ [])) lines ≡ take (length ends) lines ++ line ∷ []
     taken =
@@ -120,7 +109,7 @@ worked_next l old mid new lines line before after ends more end here is worked r
 
 turns_cpu : (l : LayoutParts) (gained : List Receipt) (old new : SeatValue) → AreTurns l old gained new
     → new.cpu ≡ old.cpu
-turns_cpu l [] old new turns = ap (λ (s : SeatValue). s.cpu) turns
+turns_cpu l [] old new turns = rw turns
 turns_cpu l (r ∷ rs) old new turns = turns_cpu l rs turns.0 new turns.2 ∙ turns.1.cpu
 
 left_cpu : (seat : SeatValue) (fault : Option CallFault) → (left_with seat fault).cpu ≡ seat.cpu
@@ -130,24 +119,21 @@ left_cpu seat (Some OutOfMemory) = refl
 
 seal_cpu : (l : LayoutParts) (old new : SeatValue) (handed : List Volume) (end : LineEnd)
     → IsSealRun l old handed end new → new.cpu ≡ old.cpu
-seal_cpu l old new handed (Replied reply) ran = absurd ran
-seal_cpu l old new handed (Faulted named) ran = ap (λ (s : SeatValue). s.cpu) ran.2
-seal_cpu l old new handed (Planned end) ran = absurd ran
-seal_cpu l old new handed (Untaken why) ran = absurd ran
-seal_cpu l old new handed (Sealed count) ran = ap (λ (s : SeatValue). s.cpu) ran.4
+seal_cpu l old new handed (Faulted named) ran = rw ran.2
+seal_cpu l old new handed (Sealed count) ran = rw ran.4
+seal_cpu l old new handed _ ran = absurd ran
 
 line_cpu : (l : LayoutParts) (old new : SeatValue) (asked : Meaning) (handed : List Volume) (end : LineEnd)
     → IsLine l old asked handed end new → new.cpu ≡ old.cpu
 line_cpu l old new asked handed end (inl ran) =
     let run = ran.1 in
-    ap (λ (s : SeatValue). s.cpu) run.left
-    ∙ (left_cpu run.called run.fault ∙ turns_cpu l run.gained old run.called run.turns)
+    rw run.left (left_cpu run.called run.fault ∙ turns_cpu l run.gained old run.called run.turns)
 line_cpu l old new asked handed end (inr ran) = seal_cpu l old new handed end ran.1
 
 lines_cpu : (l : LayoutParts) (lines : List Line) (old new : SeatValue) (handed : List Volume)
     (ends : List LineEnd)
     → AreLines l old lines handed ends new → new.cpu ≡ old.cpu
-lines_cpu l [] old new handed ends none = ap (λ (s : SeatValue). s.cpu) none.2
+lines_cpu l [] old new handed ends none = rw none.2
 lines_cpu l (line ∷ lines) old new handed ends ran =
     lines_cpu l lines ran.0 new ran.3 ran.4 ran.7.1
     ∙ line_cpu l old ran.0 (asked_by line.work) ran.1 ran.2 ran.7.0

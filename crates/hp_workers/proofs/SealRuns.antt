@@ -1,10 +1,9 @@
 -- Seals: what one hands out, and how many volumes there can be.
-use Rattle.std.proofs.Common.{◌≡◌, ℕ, ◌+◌, ◌≤◌, List, [], ◌∷◌, ◌++◌, length, take, Option, Some, slice_get, refl, sym, ap, subst, ◌∙◌, arith, add-one, is_ok, if◌then◌else◌, Result, Ok, Err, inl, inr}
+use Rattle.std.proofs.Common.{◌≡◌, ℕ, ◌≤◌, List, [], ◌∷◌, ◌++◌, length, take, Option, refl, ap, arith, is_ok, if◌then◌else◌, Result, Ok, Err, inl, inr}
 use Rattle.std.specs.Prelude.{IsOk}
 use Rattle.std.proofs.lemmas.List.{length-append, take-take}
 use Rattle.std.proofs.lemmas.List.Elements.{All-append, All-cons}
 use Rattle.std.proofs.lemmas.List.Sums.{sum_by-cons, sum_by-take-le}
-use Rattle.hp_laws.proofs.Lists.{take_next}
 use Rattle.hp_units.specs.LayoutParts.{LayoutParts}
 use Rattle.hp_history.specs.declared.volumes.Volume.{Volume}
 use Rattle.hp_scenario.specs.Asked.{Meaning, asked_by, asks_seal, is_seal}
@@ -12,7 +11,7 @@ use Rattle.hp_scenario.specs.declared.lines.Line.{Line}
 use Rattle.hp_shared.specs.Shared.{SeatValue}
 use Rattle.hp_shared.specs.Volumes.{IsSealOf}
 use Rattle.hp_workers.specs.declared.lines.LineEnd.{LineEnd}
-use Rattle.hp_workers.specs.declared.lines.LineEnd.TheVariants.{Reply as Replied, Fault as Faulted, Plan as Planned, Control as Untaken, Sealed}
+use Rattle.hp_workers.specs.declared.lines.LineEnd.TheVariants.{Fault as Faulted, Sealed}
 use Rattle.hp_workers.specs.declared.fault.RunFault.{RunFault}
 use Rattle.hp_workers.specs.Lines.{AreLines, IsLine, IsSealRun}
 use Rattle.hp_workers.specs.Seals.{AreSealed, one_if, seals_in, seals_in_all}
@@ -22,31 +21,25 @@ use Rattle.hp_workers.specs.Workers.{IsWorker}
 
 handed_few : (l : LayoutParts) (old new : SeatValue) (handed : List Volume) (end : LineEnd)
     → IsSealRun l old handed end new → length handed ≤ 1
-handed_few l old new handed (Replied reply) ran = absurd ran
-handed_few l old new handed (Faulted named) ran =
-    omega (arith, ap (λ (vs : List Volume). length vs) ran.0)
-handed_few l old new handed (Planned end) ran = absurd ran
-handed_few l old new handed (Untaken why) ran = absurd ran
-handed_few l old new handed (Sealed count) ran =
-    omega (arith, ap (λ (vs : List Volume). length vs) ran.1)
+handed_few l old new handed (Faulted named) ran = omega (arith, ap length ran.0)
+handed_few l old new handed (Sealed count) ran = omega (arith, ap length ran.1)
+handed_few l old new handed _ ran = absurd ran
 
 seal_few : (l : LayoutParts) (old new : SeatValue) (asked : Meaning) (handed : List Volume) (end : LineEnd)
     → IsLine l old asked handed end new → length handed ≤ one_if (asks_seal asked)
-seal_few l old new asked handed end (inl ran) = omega (arith, ap (λ (vs : List Volume). length vs) ran.0)
-seal_few l old new asked handed end (inr ran) =
-    omega
-    (arith, handed_few l old new handed end ran.1, ap (λ (m : Meaning). one_if (asks_seal m)) ran.0)
+seal_few l old new asked handed end (inl ran) = omega (arith, ap length ran.0)
+seal_few l old new asked handed end (inr ran) = rw ran.0 (handed_few l old new handed end ran.1)
 
 lines_few : (l : LayoutParts) (lines : List Line) (old new : SeatValue) (handed : List Volume)
     (ends : List LineEnd)
     → AreLines l old lines handed ends new → length handed ≤ seals_in lines
-lines_few l [] old new handed ends none = omega (arith, ap (λ (vs : List Volume). length vs) none.0)
+lines_few l [] old new handed ends none = omega (arith, ap length none.0)
 lines_few l (line ∷ lines) old new handed ends ran =
     omega (
       arith,
       seal_few l old ran.0 (asked_by line.work) ran.1 ran.2 ran.7.0,
       lines_few l lines ran.0 new ran.3 ran.4 ran.7.1,
-      ap (λ (vs : List Volume). length vs) ran.5,
+      ap length ran.5,
       length-append ran.1 ran.3,
       sum_by-cons (λ (x : Line). one_if (is_seal x.work)) line lines,
     )
@@ -65,19 +58,16 @@ worker_few l old lines new handed ends fault worker =
 -- ---- what they are
 
 pub none_sealed : (l : LayoutParts) (handed : List Volume) → handed ≡ [] → AreSealed l handed
-none_sealed l handed none = subst (AreSealed l) (sym none) (λ i d lt. absurd (omega (arith, lt)))
+none_sealed l handed none = rw none (λ i d lt. absurd (omega (arith, lt)))
 
 seal_seals : (l : LayoutParts) (old new : SeatValue) (handed : List Volume) (end : LineEnd)
     → IsSealRun l old handed end new → AreSealed l handed
-seal_seals l old new handed (Replied reply) ran = absurd ran
 seal_seals l old new handed (Faulted named) ran = none_sealed l handed ran.0
-seal_seals l old new handed (Planned end) ran = absurd ran
-seal_seals l old new handed (Untaken why) ran = absurd ran
 seal_seals l old new handed (Sealed count) ran =
-    subst (AreSealed l) (sym ran.1)
-    (All-cons (λ (v : Volume). IsSealOf l v 0) ran.0 []
+    rw ran.1 (All-cons (λ (v : Volume). IsSealOf l v 0) ran.0 []
     (record { seen = ran.2.seen; shared = ran.2.shared; is = ran.2.is; within = omega arith })
     (none_sealed l [] refl))
+seal_seals l old new handed _ ran = absurd ran
 
 line_seals : (l : LayoutParts) (old new : SeatValue) (asked : Meaning) (handed : List Volume) (end : LineEnd)
     → IsLine l old asked handed end new → AreSealed l handed
@@ -89,7 +79,7 @@ lines_seal : (l : LayoutParts) (lines : List Line) (old new : SeatValue) (handed
     → AreLines l old lines handed ends new → AreSealed l handed
 lines_seal l [] old new handed ends none = none_sealed l handed none.0
 lines_seal l (line ∷ lines) old new handed ends ran =
-    subst (AreSealed l) (sym ran.5) (All-append (λ (v : Volume). IsSealOf l v 0) ran.1 ran.3
+    rw ran.5 (All-append (λ (v : Volume). IsSealOf l v 0) ran.1 ran.3
     (line_seals l old ran.0 (asked_by line.work) ran.1 ran.2 ran.7.0)
     (lines_seal l lines ran.0 new ran.3 ran.4 ran.7.1))
 
@@ -102,7 +92,7 @@ worker_seals l old lines new handed ends fault worker =
 pub more_seals : (l : LayoutParts) (volumes earlier handed : List Volume) → volumes ≡ earlier ++ handed
     → AreSealed l earlier → AreSealed l handed → AreSealed l volumes
 more_seals l volumes earlier handed is before own =
-    subst (AreSealed l) (sym is) (All-append (λ (v : Volume). IsSealOf l v 0) earlier handed before own)
+    rw is (All-append (λ (v : Volume). IsSealOf l v 0) earlier handed before own)
 
 -- fewer scripts seal no more
 pub fewer_seal_less : (scripts : List (List Line)) (i j : ℕ) → i ≤ j

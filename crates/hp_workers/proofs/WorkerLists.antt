@@ -1,6 +1,6 @@
 -- One more worker.
 use Rattle.std.specs.Prelude.{◌⊎◌}
-use Rattle.std.proofs.Common.{inl, inr, ◌≡◌, ℕ, suc, ◌<◌, ◌≤◌, List, [], ◌∷◌, ◌++◌, length, take, Option, Some, None, slice_get, get_or, refl, ap, sym, subst, ◌∙◌, arith}
+use Rattle.std.proofs.Common.{inl, inr, ◌≡◌, ℕ, suc, ◌<◌, ◌≤◌, List, [], ◌∷◌, ◌++◌, length, take, Option, Some, None, slice_get, get_or, refl, ap, sym, ◌∙◌, arith}
 use Rattle.std.proofs.lemmas.List.{append_assoc, append-nil, length-append}
 use Rattle.std.proofs.lemmas.List.Sorted.{length_permutation}
 use Rattle.std.proofs.lemmas.List.Sums.{sum_by-cons, sum_by-take-le}
@@ -33,8 +33,7 @@ joined_more : (lists : List (List Volume)) (handed : List Volume)
     → joined (lists ++ handed ∷ []) ≡ joined lists ++ handed
 joined_more [] handed = append-nil handed
 joined_more (list ∷ lists) handed =
-    ap (λ (vs : List Volume). list ++ vs) (joined_more lists handed)
-    ∙ sym (append_assoc list (joined lists) handed)
+    rw (joined_more lists handed) (sym (append_assoc list (joined lists) handed))
 
 pub workers_more : (l : LayoutParts) (all seats : List SeatValue) (seat : SeatValue)
     (scripts : List (List Line)) (lines : List Line) (done news : List SeatValue) (new : SeatValue)
@@ -47,12 +46,7 @@ pub workers_more : (l : LayoutParts) (all seats : List SeatValue) (seat : SeatVa
     → AreWorkers l all scripts done volumes all_ends now
 workers_more l all seats seat scripts lines done news new volumes earlier handed all_ends ends own was fault
     now all_is here done_is volumes_are ends_is now_is before worker begun =
-    subst (λ (xs : List SeatValue). AreWorkers l xs scripts done volumes all_ends now) (sym all_is)
-    (subst (λ (xs : List SeatValue). AreWorkers l (seats ++ seat ∷ []) scripts xs volumes all_ends now)
-    (sym done_is)
-    (subst (λ (xs : List (List LineEnd)).
-    AreWorkers l (seats ++ seat ∷ []) scripts (news ++ new ∷ []) volumes xs now) (sym ends_is)
-    (record {
+    rw (all_is, done_is, ends_is) (record {
       handed = before.handed ++ handed ∷ [];
       faults = before.faults ++ fault ∷ [];
       seats = omega (arith, before.seats, length-append seats (seat ∷ []), length-append news (new ∷ []));
@@ -63,26 +57,19 @@ workers_more l all seats seat scripts lines done news new volumes earlier handed
       causes =
           omega
           (arith, before.causes, length-append seats (seat ∷ []), length-append before.faults (fault ∷ []));
-      all =
-          volumes_are ∙ ap (λ (vs : List Volume). vs ++ handed) before.all
-          ∙ sym (joined_more before.handed handed);
+      all = rw (volumes_are, before.all) (sym (joined_more before.handed handed));
       sealed =
           more_seals l volumes earlier handed volumes_are before.sealed
           (worker_seals l seat lines new handed own fault worker);
-      first =
-          now_is ∙ ap (λ (o : Option RunFault). option_or o fault) before.first
-          ∙ sym (first_more before.faults fault);
-      started = λ first is. first_started first (get_push_cases before.faults fault first 0 is);
+      first = rw (now_is, before.first) (sym (first_more before.faults fault));
+      started = λ first is. elim (get_push_cases before.faults fault first 0 is) [
+        | inl e ↦ before.started first e
+        | inr e ↦ rw (← e.1) (begun (sym before.causes ∙ sym e.0))
+      ];
       each =
           λ place s its there script. by_place place s its script (get_push_cases seats seat s place there);
-    })))
+    })
   where
-    first_started : (first : Option RunFault)
-        → (slice_get before.faults 0 ≡ Some first) ⊎ ((0 ≡ length before.faults) × (fault ≡ first))
-        → IsStarted first
-    first_started first (inl e) = before.started first e
-    first_started first (inr e) = subst IsStarted e.1 (begun (sym before.causes ∙ sym e.0))
-
     by_place : (place : ℕ) (s : SeatValue) (its : List Line) → slice_get scripts place ≡ Some its
         → (slice_get seats place ≡ Some s) ⊎ ((place ≡ length seats) × (seat ≡ s))
         → HasWorker l s its (news ++ new ∷ []) (before.handed ++ handed ∷ []) (ends ++ own ∷ [])
@@ -107,24 +94,17 @@ workers_more l all seats seat scripts lines done news new volumes earlier handed
         }
     by_place place s its script (inr e) =
         let same : lines ≡ its =
-        same_item (slice_get scripts place) lines its (ap (λ (k : ℕ). slice_get scripts k) e.0 ∙ here)
-        script in
+        same_item (slice_get scripts place) lines its (rw e.0 here) script in
         record {
           new = new;
           handed = handed;
           own = own;
           fault = fault;
-          seat = ap (λ (k : ℕ). slice_get (news ++ new ∷ []) k) (e.0 ∙ sym before.seats) ∙ get_end news new;
-          out =
-              ap (λ (k : ℕ). slice_get (before.handed ++ handed ∷ []) k) (e.0 ∙ sym before.outs)
-              ∙ get_end before.handed handed;
-          end = ap (λ (k : ℕ). slice_get (ends ++ own ∷ []) k) (e.0 ∙ sym before.ends) ∙ get_end ends own;
-          why =
-              ap (λ (k : ℕ). slice_get (before.faults ++ fault ∷ []) k) (e.0 ∙ sym before.causes)
-              ∙ get_end before.faults fault;
-          worker =
-              subst (λ (x : SeatValue). IsWorker l x its new handed own fault) e.1
-              (subst (λ (ls : List Line). IsWorker l seat ls new handed own fault) same worker);
+          seat = rw (e.0, ← before.seats) (get_end news new);
+          out = rw (e.0, ← before.outs) (get_end before.handed handed);
+          end = rw (e.0, ← before.ends) (get_end ends own);
+          why = rw (e.0, ← before.causes) (get_end before.faults fault);
+          worker = rw (← e.1, ← same) worker;
         }
 
 -- a worker of the script that was read
@@ -135,9 +115,7 @@ pub worker_at : (l : LayoutParts) (old : SeatValue) (scripts : List (List Line))
     → IsWorker l old lines new handed ends fault → IsWorkerAt l old scripts place new handed ends fault
 worker_at l old scripts place read lines new handed ends fault same inside is worker = record {
   lines = lines;
-  script =
-      slice_get_read scripts (length scripts) place lines refl inside
-      (is ∙ ap (λ (k : ℕ). get_or scripts k lines) same);
+  script = slice_get_read scripts (length scripts) place lines refl inside (rw same at is);
   worker = worker;
 }
 
@@ -146,23 +124,20 @@ pub workers_none : (l : LayoutParts) (olds : List SeatValue) (scripts : List (Li
     (news : List SeatValue) (volumes : List Volume) (lists : List (List LineEnd)) (fault : Option RunFault)
     → olds ≡ [] → news ≡ [] → volumes ≡ [] → lists ≡ [] → fault ≡ None
     → AreWorkers l olds scripts news volumes lists fault
-workers_none l olds scripts news volumes lists fault no_olds no_news none no_ends no_fault = record {
-  handed = [];
-  faults = [];
-  seats = ap (λ (xs : List SeatValue). length xs) (no_news ∙ sym no_olds);
-  outs = sym (ap (λ (xs : List SeatValue). length xs) no_olds);
-  ends =
-      ap (λ (xs : List (List LineEnd)). length xs) no_ends
-      ∙ sym (ap (λ (xs : List SeatValue). length xs) no_olds);
-  causes = sym (ap (λ (xs : List SeatValue). length xs) no_olds);
-  all = none;
-  sealed = none_sealed l volumes none;
-  first = no_fault;
-  started = λ first here. absurd cc;
-  each =
-      λ place seat lines here script. (let bad : slice_get [] place ≡ Some seat =
-      sym (ap (λ (xs : List SeatValue). slice_get xs place) no_olds) ∙ here in absurd cc);
-}
+workers_none l olds scripts news volumes lists fault no_olds no_news none no_ends no_fault =
+    rw (no_olds, no_news, none, no_ends, no_fault) (record {
+      handed = [];
+      faults = [];
+      seats = refl;
+      outs = refl;
+      ends = refl;
+      causes = refl;
+      all = refl;
+      sealed = none_sealed l [] refl;
+      first = refl;
+      started = λ first here. absurd cc;
+      each = λ place seat lines here script. absurd cc;
+    })
 
 -- ---- how many volumes all hand out
 
@@ -190,7 +165,7 @@ workers_few l olds scripts news volumes lists fault workers within =
     omega (
       arith,
       lists_few workers.handed scripts (omega (arith, workers.outs, within)) each,
-      ap (λ (vs : List Volume). length vs) workers.all,
+      ap length workers.all,
       ap (λ (k : ℕ). seals_in_all (take k scripts)) workers.outs,
     )
   where
@@ -205,7 +180,7 @@ workers_few l olds scripts news volumes lists fault workers within =
         omega (
           arith,
           worker_few l old.0 lines found.new found.handed found.own found.fault found.worker,
-          ap (λ (vs : List Volume). length vs) same,
+          ap length same,
         )
 
 -- ---- all of a run

@@ -1,9 +1,12 @@
 use Rattle.std.proofs.Common.{refl}
 use Rattle.std.proofs.lemmas.Result.{on_ok_weaker}
-use Rattle.hp_commands.proofs.Written.{plan_written}
+use Rattle.hp_text.specs.Plans.{plan_line}
 use Rattle.hp_commands.proofs.plans.write_plan.Goals as goal
 
 pub returns : goal.returns
 returns c =
-    on_ok_weaker c.write_plan_end.result (λ grown. plan_written _ _ c.args.cpu c.args.turns c.args.plan.now
-    c.args.plan.now c.run_to_end-end.result _ _ refl c.run_to_end-end.ensures grown) c.write_plan_end.ensures
+    on_ok_weaker c.write_plan_end.result (λ grown. record {
+      text = plan_line c.run_to_end-end.result;
+      grown = grown;
+      is = (c.run_to_end-end.result, c.run_to_end-end.ensures, refl);
+    }) c.write_plan_end.ensures

@@ -1,11 +1,9 @@
-use Rattle.std.proofs.Common.{◌≡◌, Some, ap, subst}
+use Rattle.std.proofs.Common.{◌≡◌, Some, ap}
 use Rattle.std.proofs.lemmas.Result.{err_from_is_err_and, IfErr-weaker, IfOk-weaker}
 use Rattle.hp_machine.specs.Machine.{MachineValue}
 use Rattle.hp_scenario.specs.Seen.{scenario_seen}
-use Rattle.hp_units.specs.LayoutParts.{LayoutParts}
 use Rattle.hp_commands.specs.Faults.{IsFaultOf, IsWorkFault}
 use Rattle.hp_commands.specs.declared.commands.Command.TheVariants.{Run}
-use Rattle.hp_commands.specs.Runs.{IsWorkedOff}
 use Rattle.hp_commands.proofs.Ran.{run_is, unfit, work_fails_at}
 use Rattle.hp_commands.proofs.Served.{scenario_fault}
 use Rattle.hp_commands.proofs.runs.work_off.Goals as goal
@@ -40,6 +38,5 @@ returns-clause-ok g c =
     let scripts = c.in_ok-scripts.scripts.items in
     IfOk-weaker c.run_scripts.result _ _ (λ worked h. run_is c.args.input.now s scripts worked.ends.items
     worked.closed.volumes.items worked.closed.machine worked.closed.records c.in_ok-scenario.ensures
-    c.in_ok-scripts.ensures.scripts c.in_ok-scripts.ensures.count (subst (λ (l : LayoutParts).
-    IsWorkedOff l scripts worked.ends.items worked.closed.volumes.items worked.closed.machine
-    worked.closed.records) booted h)) c.run_scripts.ensures.ok
+    c.in_ok-scripts.ensures.scripts c.in_ok-scripts.ensures.count (rw booted at h))
+    c.run_scripts.ensures.ok

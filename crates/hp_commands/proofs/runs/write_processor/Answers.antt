@@ -1,4 +1,4 @@
-use Rattle.std.proofs.Common.{◌≡◌, ℕ, ◌+◌, ◌<◌, List, [], ◌∷◌, ◌++◌, length, get_or, take, ap, sym, ◌∙◌, append_assoc, append-nil}
+use Rattle.std.proofs.Common.{◌≡◌, ℕ, ◌+◌, ◌<◌, List, [], ◌∷◌, ◌++◌, length, get_or, take, ap, ◌∙◌, append_assoc, append-nil}
 use Rattle.std.specs.List.{flat_map}
 use Rattle.std.proofs.lemmas.Grind.{flat_map-append}
 use Rattle.std.proofs.lemmas.List.{take_more}
@@ -14,17 +14,11 @@ ends_more : (xs ys : List LineEnd) (i : ℕ) (x : LineEnd) (before old new : Lis
 ends_more xs ys i x before old new same inside is so_far next =
     let one : flat_map line_end_text (take (i + 1) ys)
     ≡ flat_map line_end_text (take i ys) ++ line_end_text x =
-    ap (flat_map line_end_text)
-    (take_more ys i x inside ∙ ap (λ (e : LineEnd). take i ys ++ e ∷ []) (sym is))
-    ∙ flat_map-append line_end_text (take i ys) (x ∷ [])
-    ∙ ap (λ (t : List ℕ). flat_map line_end_text (take i ys) ++ t)
-    (flat_map-cons line_end_text x [] ∙ append-nil (line_end_text x)) in
-    next
-    ∙ ap (λ (t : List ℕ). t ++ line_end_text x)
-    (so_far ∙ ap (λ (l : List LineEnd). before ++ flat_map line_end_text (take i l)) (sym same))
-    ∙ append_assoc before (flat_map line_end_text (take i ys)) (line_end_text x)
-    ∙ ap (λ (t : List ℕ). before ++ t) (sym one)
-    ∙ ap (λ (l : List LineEnd). before ++ flat_map line_end_text (take (i + 1) l)) same
+    rw (take_more ys i x inside, ← is, flat_map-append line_end_text (take i ys) (x ∷ []))
+    (ap (λ (t : List ℕ). flat_map line_end_text (take i ys) ++ t)
+    (flat_map-cons line_end_text x [] ∙ append-nil (line_end_text x))) in
+    rw (next, so_far, ← same, one)
+    (append_assoc before (flat_map line_end_text (take i ys)) (line_end_text x))
 
 pub loop-end-preserved : goal.loop-end-preserved
 loop-end-preserved c =

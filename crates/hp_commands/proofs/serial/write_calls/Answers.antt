@@ -1,6 +1,4 @@
-use Rattle.std.proofs.Common.{◌≡◌, false, true, string_bytes, subst}
-use Rattle.hp_scenario.specs.Calls.{Goes}
-use Rattle.hp_scenario.specs.declared.calls.Next.{Next}
+use Rattle.std.proofs.Common.{◌≡◌, false, true, string_bytes}
 use Rattle.hp_scenario.proofs.CallsPassed.{passes_shorter}
 use Rattle.hp_commands.proofs.Called.{called_more, called_none}
 use Rattle.hp_commands.proofs.serial.write_calls.Goals as goal
@@ -10,28 +8,19 @@ loop-line-init c = called_none c.args.calls.now (string_bytes c.args.out.now) c.
 
 pub loop-line-preserved : goal.loop-line-preserved
 loop-line-preserved c =
-    let one =
-    subst (λ (n : Next). Goes c.loop-line.calls n c.next.new.self) c.in-Another.is c.in_ok-line.ensures in
+    let one = rw c.in-Another.is at c.in_ok-line.ensures in
     called_more c.args.calls.now c.loop-line.calls c.next.new.self c.in-Another.line _ _ _ _ _ _
     c.loop-line.invariant one c.in_ok-write_taken-in-Another.ensures
 
 pub loop-line-smaller : goal.loop-line-smaller
 loop-line-smaller c =
-    let one =
-    subst (λ (n : Next). Goes c.loop-line.calls n c.next.new.self) c.in-Another.is c.in_ok-line.ensures in
+    let one = rw c.in-Another.is at c.in_ok-line.ensures in
     passes_shorter c.loop-line.calls c.next.new.self c.in-Another.line one
 
 pub returns-in-End : goal.returns-in-End
 returns-in-End c sure =
-    let i = c.loop-line.invariant in (
-      i.0,
-      (
-        c.loop-line.calls,
-        i.1,
-        subst (λ (n : Next). Goes c.loop-line.calls n c.next.new.self) c.in-End.is c.in_ok-line.ensures,
-      ),
-      i.2,
-    )
+    let i = c.loop-line.invariant in
+    (i.0, (c.loop-line.calls, i.1, rw c.in-End.is at c.in_ok-line.ensures), i.2)
 
 pub returns-in-Unsure : goal.returns-in-Unsure
 returns-in-Unsure c sure = let bad : false ≡ true = sure in absurd cc

@@ -1,19 +1,14 @@
 -- The volume's records are sealed, or their fault is one of the volume.
-use Rattle.std.proofs.Common.{◌≡◌, List, OnOk, sym, subst}
+use Rattle.std.proofs.Common.{◌≡◌, OnOk, subst}
 use Rattle.std.proofs.lemmas.Result.{IfErr-weaker, on_ok_weaker}
-use Rattle.hp_units.specs.History.{IsLegal}
-use Rattle.hp_units.specs.declared.replies.Record.{Record}
 use Rattle.hp_history.specs.Course.{CourseValue}
-use Rattle.hp_replays.specs.Chains.{IsFaultAfter}
 use Rattle.hp_replays.proofs.ChainEnds.{memory_fault, records_fault, sealed_so}
 use Rattle.hp_replays.proofs.chains.replayed.Goals as goal
 
 pub returns-in-Ok-clause-legal : goal.returns-in-Ok-clause-legal
 returns-in-Ok-clause-legal c =
-    on_ok_weaker c.seal_off.result
-    (λ next. subst
-    (λ (g : List Record). IsLegal c.args.end.now.layout c.args.end.now.base c.args.end.now.before g)
-    c.as_slice-records.ensures c.in-Ok.ensures.course.legal) c.seal_off.ensures.next
+    on_ok_weaker c.seal_off.result (λ next. rw c.as_slice-records.ensures at c.in-Ok.ensures.course.legal)
+    c.seal_off.ensures.next
 
 pub returns-in-Ok-clause-next : goal.returns-in-Ok-clause-next
 returns-in-Ok-clause-next c =
@@ -28,6 +23,6 @@ returns-in-Ok-clause-err c =
 
 pub returns-in-Err-clause-err : goal.returns-in-Err-clause-err
 returns-in-Err-clause-err c =
-    subst (IsFaultAfter c.args.end.now c.args.at c.args.volume.now) (sym c.chain_fault.ensures)
-    (records_fault c.args.end.now c.args.at c.args.volume.now c.as_slice-records.result.now c.in-Err.fault
-    c.requires.follows c.as_slice-records.ensures c.in-Err.ensures.fault)
+    rw c.chain_fault.ensures (records_fault c.args.end.now c.args.at c.args.volume.now
+    c.as_slice-records.result.now c.in-Err.fault c.requires.follows c.as_slice-records.ensures
+    c.in-Err.ensures.fault)

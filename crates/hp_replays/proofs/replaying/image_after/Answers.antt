@@ -1,8 +1,5 @@
 -- The journal of all records shows the state that they lead to.
-use Rattle.std.proofs.Common.{◌∙◌, ap}
 use Rattle.std.proofs.lemmas.Result.{err_from_is_err_and}
-use Rattle.hp_memory.specs.Memory.{MemoryValue}
-use Rattle.hp_history.specs.Kept.{pictured}
 use Rattle.hp_replays.proofs.Replays.{shown}
 use Rattle.hp_replays.proofs.replaying.image_after.Goals as goal
 
@@ -11,10 +8,9 @@ returns-clause-legal c = c.in_ok-followed.ensures.course.legal
 
 pub returns-clause-value : goal.returns-clause-value
 returns-clause-value c =
-    c.in_ok-image.ensures
-    ∙ (ap (λ (m : MemoryValue). pictured m.layout m.state) c.memory-memory.ensures
-    ∙ shown c.args.journal.now.layout c.args.journal.now.base c.args.journal.now.before c.args.records.now
-    c.followed.new.journal c.in_ok-followed.ensures.course)
+    rw (c.in_ok-image.ensures, c.memory-memory.ensures) (shown c.args.journal.now.layout
+    c.args.journal.now.base c.args.journal.now.before c.args.records.now c.followed.new.journal
+    c.in_ok-followed.ensures.course)
 
 pub returns-clause-placed : goal.returns-clause-placed
 returns-clause-placed c = rw c.in_ok-image.ensures c.is_placed.ensures.placed

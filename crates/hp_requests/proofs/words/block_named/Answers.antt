@@ -1,21 +1,16 @@
-use Rattle.std.proofs.Common.{◌≡◌, ◌∙◌, ℕ, true, List, ◌++◌, codes, drop, Option, ap, rules}
+use Rattle.std.proofs.Common.{◌≡◌, ◌∙◌, ℕ, true, List, ◌++◌, codes, drop, Option}
 use Rattle.std.specs.List.{starts_with}
 use Rattle.std.specs.Prelude.{nat_eq}
 use Rattle.hp_numbers.specs.NumberWords.{number_of}
 use Rattle.hp_requests.specs.Words.{block_named}
 use Rattle.hp_requests.proofs.words.block_named.Goals as goal
 
-pub returns-in_err-strip_prefix : goal.returns-in_err-strip_prefix
-unfolding block_named
-returns-in_err-strip_prefix c = search rules
-
 named : (name rest : List ℕ) (x : ℕ) (n : Option ℕ) → x ≡ 6 → name ≡ codes "memory" ++ drop x name
     → rest ≡ drop x name → n ≡ number_of 32 rest → n ≡ block_named name
 unfolding block_named
 named name rest x n six whole left number =
-    let has : starts_with nat_eq name (codes "memory") ≡ true =
-    ap (λ (t : List ℕ). starts_with nat_eq t (codes "memory")) whole in
-    rw has (number ∙ ap (number_of 32) (left ∙ ap (λ (k : ℕ). drop k name) six))
+    let has : starts_with nat_eq name (codes "memory") ≡ true = rw whole in
+    rw (has, number, left, six)
 
 pub returns-in_err-number32 : goal.returns-in_err-number32
 returns-in_err-number32 c =

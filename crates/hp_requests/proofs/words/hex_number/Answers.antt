@@ -1,5 +1,4 @@
-use Rattle.hp_requests.specs.Words.{hex_number}
-use Rattle.std.proofs.Common.{◌<◌, arith, rules}
+use Rattle.std.proofs.Common.{◌<◌, arith}
 use Rattle.hp_requests.proofs.Hex.{next_fits}
 use Rattle.hp_requests.proofs.words.hex_number.Goals as goal
 
@@ -19,7 +18,3 @@ overflow_add-number c =
       next_fits c.loop-digit.number c.loop-digit.digit-index c.from.result
           c.loop-digit.invariant.places (omega arith) small,
     )
-
-pub returns-then-is_empty : goal.returns-then-is_empty
-unfolding hex_number
-returns-then-is_empty c = search rules

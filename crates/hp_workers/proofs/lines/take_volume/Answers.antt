@@ -1,25 +1,12 @@
-use Rattle.std.proofs.Common.{List, [], ◌∷◌, ◌++◌, length, refl, ap, inr, ◌∙◌}
-use Rattle.hp_history.specs.declared.volumes.Volume.{Volume}
-use Rattle.hp_units.specs.declared.replies.Record.{Record}
+use Rattle.std.proofs.Common.{[], ◌∷◌, length, refl, ap, inr}
 use Rattle.hp_workers.proofs.lines.take_volume.Goals as goal
 
 pub returns-in-Ok-seal : goal.returns-in-Ok-seal
 returns-in-Ok-seal g c =
     let volume = c.in-Ok-seal.volume in
+    let ok = c.in-Ok-seal.ensures in
     record {
       handed = volume ∷ [];
-      line =
-          inr (
-            refl,
-            (
-              volume,
-              refl,
-              c.in-Ok-seal.ensures.ok,
-              ap (λ (rs : List Record). length rs) c.as_slice.ensures,
-              c.in-Ok-seal.ensures.seat,
-            ),
-          );
-      kept =
-          c.push_reserved.ensures.items
-          ∙ ap (λ (vs : List Volume). vs ++ volume ∷ []) c.reserve.ensures.items;
+      line = inr (refl, (volume, refl, ok.ok, ap length c.as_slice.ensures, ok.seat));
+      kept = rw (c.push_reserved.ensures.items, c.reserve.ensures.items);
     }

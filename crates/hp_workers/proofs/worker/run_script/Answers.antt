@@ -1,7 +1,5 @@
-use Rattle.std.proofs.Common.{◌≡◌, length, Some, List, slice_get, refl, sym, ap, subst, ◌∙◌, arith}
+use Rattle.std.proofs.Common.{◌≡◌, length, Some, slice_get, refl, arith}
 use Rattle.std.proofs.lemmas.Option.{slice_get_read}
-use Rattle.hp_scenario.specs.declared.lines.Line.{Line}
-use Rattle.hp_workers.specs.Workers.{IsStarted}
 use Rattle.hp_workers.proofs.LineRuns.{worked_next}
 use Rattle.hp_workers.proofs.worker.run_script.Goals as goal
 
@@ -15,8 +13,7 @@ loop-at-preserved g c =
     slice_get_read lines (length lines) at c.index-lines-at.result refl
     (omega (arith, c.loop-at-test.true, c.loop-at.auto)) c.index-lines-at.is in
     let here : slice_get c.args.script.now (length c.loop-at.ends.items) ≡ Some c.index-lines-at.result =
-    ap (λ (ws : List Line). slice_get ws (length c.loop-at.ends.items)) (sym c.as_slice-lines.ensures)
-    ∙ (ap (λ k. slice_get lines k) (sym count) ∙ read) in (
+    rw (← c.as_slice-lines.ensures, ← count) read in (
       omega (arith, i.0, c.push_reserved.ensures.len),
       omega (arith, i.1, c.push_reserved.ensures.capacity),
       worked_next g.L.Job.layout c.args.seat c.loop-at.seat c.run_line-end.new.seat c.args.script.now
@@ -27,4 +24,4 @@ loop-at-preserved g c =
     )
 
 pub returns-in_default-clause-started : goal.returns-in_default-clause-started
-returns-in_default-clause-started g c = subst IsStarted (sym c.stopped.ensures.fault) tt
+returns-in_default-clause-started g c = rw c.stopped.ensures.fault tt

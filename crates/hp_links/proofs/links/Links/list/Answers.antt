@@ -1,9 +1,9 @@
-use Rattle.std.proofs.Common.{◌<◌, ℕ, [], ◌∷◌, length, ap, subst, arith}
+use Rattle.std.proofs.Common.{◌<◌, [], ◌∷◌, length, ap, arith}
 use Rattle.std.proofs.lemmas.List.{length-append}
 use Rattle.hp_links.specs.LinkedLists.{list_at}
 use Rattle.hp_links.specs.Rings.{Member}
 use Rattle.hp_links.proofs.Members.{Contains-from_Member}
-use Rattle.hp_links.proofs.Views.{frame_in, frames_are, linked, seen}
+use Rattle.hp_links.proofs.Views.{frames_are, linked, seen}
 use Rattle.hp_links.proofs.Walks.{walked-all, walked-fewer, walked-more, walked-none, walked-on}
 use Rattle.hp_links.proofs.links.Links.list.Goals as goal
 
@@ -16,9 +16,8 @@ pub next-ahead-requires : goal.next-ahead-requires
 next-ahead-requires c =
     let s = seen c.self.invariant c.self.view_is in
     let xs = list_at c.args.self.now c.args.list in
-    subst (λ (n : ℕ). c.in-Some.frame < n) (frames_are s)
-    (frame_in s c.args.list c.in-Some.frame (walked-on xs c.loop-ahead.frames.items c.in-Some.frame
-    c.loop-ahead.ahead c.in-Some.is c.loop-ahead.invariant))
+    rw (← frames_are s) ((linked s).below c.args.list c.in-Some.frame (walked-on xs c.loop-ahead.frames.items
+    c.in-Some.frame c.loop-ahead.ahead c.in-Some.is c.loop-ahead.invariant))
 
 pub loop-ahead-preserved : goal.loop-ahead-preserved
 loop-ahead-preserved c =

@@ -1,31 +1,27 @@
-use Rattle.std.proofs.Common.{◌∙◌}
 use Rattle.hp_links.specs.LinkedLists.{list_at}
 use Rattle.hp_links.proofs.Views.{list_is, found_on, found_in, found_none, apart, seen}
 use Rattle.hp_links.proofs.links.Links.list_of.Goals as goal
 use Rattle.hp_links.proofs.Members.{Member-from_Contains}
 
 pub returns-clause-on : goal.returns-clause-on
-returns-clause-on c =
-    let s = seen c.self.invariant c.self.view_is in
-    λ l on. rw c.place_of.ensures at c.list.ensures
-    ∙ list_is s l c.args.frame (Member-from_Contains c.args.frame (list_at c.args.self.now l) on)
+returns-clause-on c = λ l on. rw (c.list.ensures, c.place_of.ensures) (list_is
+    (seen c.self.invariant c.self.view_is) l c.args.frame
+    (Member-from_Contains c.args.frame (list_at c.args.self.now l) on))
 
 pub returns-clause-listed : goal.returns-clause-listed
 returns-clause-listed c =
-    let s = seen c.self.invariant c.self.view_is in
-    found_on s c.list.result c.args.frame c.requires (rw c.place_of.ensures at c.list.ensures)
+    found_on (seen c.self.invariant c.self.view_is) c.list.result c.args.frame c.requires
+    (rw c.place_of.ensures at c.list.ensures)
 
 pub returns-clause-in_range : goal.returns-clause-in_range
 returns-clause-in_range c =
-    let s = seen c.self.invariant c.self.view_is in
-    found_in s c.list.result c.args.frame c.requires (rw c.place_of.ensures at c.list.ensures)
+    found_in (seen c.self.invariant c.self.view_is) c.list.result c.args.frame c.requires
+    (rw c.place_of.ensures at c.list.ensures)
 
 pub returns-clause-free : goal.returns-clause-free
 returns-clause-free c =
-    let s = seen c.self.invariant c.self.view_is in
-    found_none s c.list.result c.args.frame (rw c.place_of.ensures at c.list.ensures)
+    found_none (seen c.self.invariant c.self.view_is) c.list.result c.args.frame
+    (rw c.place_of.ensures at c.list.ensures)
 
 pub returns-clause-apart : goal.returns-clause-apart
-returns-clause-apart c =
-    let s = seen c.self.invariant c.self.view_is in
-    apart s
+returns-clause-apart c = apart (seen c.self.invariant c.self.view_is)

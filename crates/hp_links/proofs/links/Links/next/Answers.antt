@@ -1,7 +1,6 @@
-use Rattle.std.proofs.Common.{ℕ, Option, sym, ◌∙◌, ap, is_some}
+use Rattle.std.proofs.Common.{sym, ◌∙◌}
 use Rattle.hp_links.specs.LinkedLists.{list_at}
-use Rattle.hp_links.specs.Rings.{frame_at}
-use Rattle.hp_links.proofs.Views.{found_some, found_listed, behind_is, seen}
+use Rattle.hp_links.proofs.Views.{list_is, found_listed, behind_is, seen}
 use Rattle.hp_links.proofs.Members.{Member-from_Contains}
 use Rattle.std.proofs.lemmas.Bool.{false≢true}
 use Rattle.hp_links.proofs.links.Links.next.Goals as goal
@@ -11,16 +10,15 @@ returns-then-is_none-clause-on c =
     let s = seen c.self.invariant c.self.view_is in
     λ l on.
     let found =
-    found_some s c.list.result l c.args.frame (rw c.place_of-place.ensures at c.list.ensures)
-    (Member-from_Contains c.args.frame (list_at c.args.self.now l) on) in
-    absurd (false≢true (sym c.if-is_none.ensures ∙ ap (λ (o : Option ℕ). is_some o) found))
+    (rw c.place_of-place.ensures at c.list.ensures)
+    ∙ list_is s l c.args.frame (Member-from_Contains c.args.frame (list_at c.args.self.now l) on) in
+    absurd (false≢true (sym (rw found at c.if-is_none.ensures)))
 
 pub returns-clause-on : goal.returns-clause-on
 returns-clause-on c =
-    let r = c.self.inside.rings in
     let s = seen c.self.invariant c.self.view_is in
-    λ l on. c.frame_at.ensures ∙ ap (frame_at r.frames) (rw c.place_of-place.ensures at c.next.ensures)
-    ∙ behind_is s l c.args.frame (Member-from_Contains c.args.frame (list_at c.args.self.now l) on)
+    λ l on. rw (c.frame_at.ensures, c.next.ensures, c.place_of-place.ensures)
+    (behind_is s l c.args.frame (Member-from_Contains c.args.frame (list_at c.args.self.now l) on))
 
 pub returns-clause-free : goal.returns-clause-free
 returns-clause-free c =

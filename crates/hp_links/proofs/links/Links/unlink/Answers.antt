@@ -1,7 +1,7 @@
-use Rattle.std.proofs.Common.{ℕ, None, refl, ◌≡◌, Option, IsSome, sym, ◌∙◌, ap, subst, arith, inr}
+use Rattle.std.proofs.Common.{ℕ, None, refl, ◌≡◌, sym, ◌∙◌, arith, inr}
 use Rattle.hp_links.specs.LinkedLists.{list_at, predecessor, with_list, without}
-use Rattle.hp_links.specs.Rings.{Member, shown, table, frame_at}
-use Rattle.hp_links.proofs.Views.{Seen, list_is, list_on, list_found, lens_in, node_in, prev_in, next_in, prev_not_self, next_not_self, len_not_zero, frame_in, unlinked, before_is, before_stays, comes_back, found_none, off_lists_are, seen}
+use Rattle.hp_links.specs.Rings.{Member, shown, table}
+use Rattle.hp_links.proofs.Views.{Seen, list_is, list_on, list_found, lens_in, listed_below, prev_in, next_in, prev_not_self, next_not_self, len_not_zero, unlinked, before_is, before_stays, comes_back, found_none, off_lists_are, seen}
 use Rattle.hp_links.proofs.Members.{Member-from_Contains}
 use Rattle.hp_links.proofs.links.Links.unlink.Goals as goal
 use Rattle.hp_links.proofs.links.Links.unlink.Goals.{After-remove, After-frame_at}
@@ -25,34 +25,29 @@ left c l on =
 before : (c : After-frame_at) (l : ℕ) → Member c.args.frame (list_at c.args.self.now l)
     → c.frame_at.result ≡ predecessor c.args.frame (list_at c.args.self.now l)
 before c l on =
-    c.frame_at.ensures ∙ ap (λ n. frame_at n c.prev-before.result) c.remove.ensures.frames
-    ∙ ap (frame_at c.self.inside.rings.frames) (rw c.place_of-place.ensures at c.prev-before.ensures)
-    ∙ before_is (seen c.self.invariant c.self.view_is) l c.args.frame on
+    rw (c.frame_at.ensures, c.remove.ensures.frames, c.prev-before.ensures, c.place_of-place.ensures)
+    (before_is (seen c.self.invariant c.self.view_is) l c.args.frame on)
 
 pub list-requires : goal.list-requires
 list-requires c =
-    let s = seen c.self.invariant c.self.view_is in
-    let h = list_on s c.args.frame c.requires in
-    omega (arith, node_in s h.0 c.args.frame h.2 (inr h.1), c.place_of-place.ensures)
+    let below = listed_below (seen c.self.invariant c.self.view_is) c.args.frame c.requires in
+    omega (arith, below, c.place_of-place.ensures)
 
 pub unwrap-list-requires : goal.unwrap-list-requires
 unwrap-list-requires c =
     let s = seen c.self.invariant c.self.view_is in
     let h = list_on s c.args.frame c.requires in
-    subst (λ (o : Option ℕ). IsSome o)
-    (sym (rw c.place_of-place.ensures at c.list.ensures ∙ list_is s h.0 c.args.frame h.1)) refl
+    rw (c.list.ensures, c.place_of-place.ensures, list_is s h.0 c.args.frame h.1) refl
 
 pub prev-before-requires : goal.prev-before-requires
 prev-before-requires c =
-    let s = seen c.self.invariant c.self.view_is in
-    let h = list_on s c.args.frame c.requires in
-    omega (arith, node_in s h.0 c.args.frame h.2 (inr h.1), c.place_of-place.ensures)
+    let below = listed_below (seen c.self.invariant c.self.view_is) c.args.frame c.requires in
+    omega (arith, below, c.place_of-place.ensures)
 
 pub next-after-requires : goal.next-after-requires
 next-after-requires c =
-    let s = seen c.self.invariant c.self.view_is in
-    let h = list_on s c.args.frame c.requires in
-    omega (arith, node_in s h.0 c.args.frame h.2 (inr h.1), c.place_of-place.ensures)
+    let below = listed_below (seen c.self.invariant c.self.view_is) c.args.frame c.requires in
+    omega (arith, below, c.place_of-place.ensures)
 
 pub remove-requires-clause-list_in : goal.remove-requires-clause-list_in
 remove-requires-clause-list_in c =
@@ -85,9 +80,8 @@ remove-requires-clause-after_in c =
 
 pub remove-requires-clause-frame_in : goal.remove-requires-clause-frame_in
 remove-requires-clause-frame_in c =
-    let s = seen c.self.invariant c.self.view_is in
-    let h = list_on s c.args.frame c.requires in
-    omega (arith, frame_in s h.0 c.args.frame h.1, c.place_of-place.ensures)
+    let below = listed_below (seen c.self.invariant c.self.view_is) c.args.frame c.requires in
+    omega (arith, below, c.place_of-place.ensures)
 
 pub remove-requires-clause-not_before : goal.remove-requires-clause-not_before
 remove-requires-clause-not_before c =

@@ -1,7 +1,5 @@
-use Rattle.std.proofs.Common.{◌++◌, ◌∷◌, [], ◌∙◌, ap, sym, arith, length, List, map}
-use Rattle.std.specs.List.{range_with_len}
+use Rattle.std.proofs.Common.{◌∙◌, ap, sym, arith, length}
 use Rattle.std.proofs.lemmas.List.FromFn.{length-map-range_with_len, map-range_with_len_more}
-use Rattle.hp_links.specs.declared.rings.Node.{Node}
 use Rattle.hp_links.specs.Rings.{alone_at}
 use Rattle.hp_links.proofs.rings.Node.all.Goals as goal
 
@@ -16,13 +14,8 @@ push_reserved-requires c =
     )
 
 pub loop-place-preserved : goal.loop-place-preserved
-loop-place-preserved c =
-    let pushed =
-    c.push_reserved.ensures.items
-    ∙ ap (λ (nodes : List Node). nodes ++ c.ring.result ∷ []) c.loop-place.invariant.0 in
-    let ringed =
-    ap (λ (node : Node). map alone_at (range_with_len 0 c.loop-place.place) ++ node ∷ []) c.ring.ensures in (
-      pushed ∙ (ringed ∙ sym (map-range_with_len_more alone_at 0 c.loop-place.place c.loop-place.place
-          (omega arith))),
-      c.push_reserved.ensures.capacity ∙ c.loop-place.invariant.1,
-    )
+loop-place-preserved c = (
+  rw (c.push_reserved.ensures.items, c.loop-place.invariant.0, c.ring.ensures)
+      (sym (map-range_with_len_more alone_at 0 c.loop-place.place c.loop-place.place (omega arith))),
+  c.push_reserved.ensures.capacity ∙ c.loop-place.invariant.1,
+)

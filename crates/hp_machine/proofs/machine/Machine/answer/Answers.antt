@@ -1,13 +1,10 @@
 -- A call keeps what every machine keeps, whether it was answered or not.
-use Rattle.std.proofs.Common.{◌≡◌, false, sym, subst, ◌∙◌}
-use Rattle.hp_machine.specs.Machine.{MachineValue, is_full}
+use Rattle.std.proofs.Common.{sym, ◌∙◌}
 use Rattle.hp_machine.proofs.Machines.{call_kept}
 use Rattle.hp_machine.proofs.machine.Machine.answer.Goals as goal
 
 pub invariant_of-self : goal.invariant_of-self
 invariant_of-self c =
-    let free : is_full c.self.inside.course ≡ false =
-    subst (λ (m : MachineValue). is_full m ≡ false) (sym c.self.view_is)
-    (sym c.is_full.ensures ∙ c.if-is_full.false) in
     call_kept c.self.inside.course c.answer.new.self c.args.cpu c.args.event.now c.answer.result
-    c.self.invariant free c.answer.ensures.err c.answer.ensures.ok
+    c.self.invariant (rw c.self.view_is (sym c.is_full.ensures ∙ c.if-is_full.false)) c.answer.ensures.err
+    c.answer.ensures.ok

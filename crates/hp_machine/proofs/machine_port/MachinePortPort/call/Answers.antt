@@ -1,17 +1,11 @@
-use Rattle.std.proofs.Common.{◌∙◌, ℕ, List, Option, Some, ap, refl, rules, sym}
+use Rattle.std.proofs.Common.{ℕ, refl, rules}
 use Rattle.std.proofs.lemmas.List.{append-nil}
 use Rattle.hp_units.specs.Receipts.{receipts_of}
-use Rattle.hp_ops.specs.Ports.{PortValue}
 use Rattle.hp_history.specs.Course.{receipt_for}
 use Rattle.hp_machine.specs.Machine.{MachineValue}
-use Rattle.hp_machine.specs.MachinePorts.{port_value}
-use Rattle.hp_machine.specs.Names.{CallFault, Receipt, Reply}
+use Rattle.hp_machine.specs.Names.{Reply}
 use Rattle.hp_machine.proofs.MachineCalls.{called_is_given, called_once, cause_of}
 use Rattle.hp_machine.proofs.machine_port.MachinePortPort.call.Goals as goal
-
--- what a port shows, by its parts
-abbrev showing : List Receipt → Option CallFault → (cpus : ℕ) → PortValue
-showing receipts fault cpus = record { receipts = receipts; fault = fault; cpus = cpus }
 
 pub returns-in-Ok-clause-ok : goal.returns-in-Ok-clause-ok
 returns-in-Ok-clause-ok g c =
@@ -40,18 +34,7 @@ returns-in-Err-clause-leaves g c = (
   cause_of (g.M.CallMachine.machine c.args.self.now.machine.now) c.in-Err.fault c.in-Err.ensures.full,
 )
 
-pub returns-in-Ok-clause-err : goal.returns-in-Ok-clause-err
-returns-in-Ok-clause-err g c = search rules
-
-pub returns-in-Ok-clause-leaves : goal.returns-in-Ok-clause-leaves
-returns-in-Ok-clause-leaves g c = search rules
-
-pub returns-in-Err-clause-ok : goal.returns-in-Err-clause-ok
-returns-in-Err-clause-ok g c = search rules
-
 pub returns-in-Err-clause-err : goal.returns-in-Err-clause-err
 returns-in-Err-clause-err g c =
     let old : MachineValue = g.M.CallMachine.machine c.args.self.now.machine.now in
-    ap (λ (m : MachineValue). port_value m c.args.self.now.cpu (Some c.in-Err.fault)) c.in-Err.ensures.err
-    ∙ sym (ap (λ (rs : List Receipt). showing rs (Some c.in-Err.fault) old.layout.cpus)
-    (append-nil (receipts_of c.args.self.now.cpu old.history)))
+    rw (c.in-Err.ensures.err, append-nil (receipts_of c.args.self.now.cpu old.history))
