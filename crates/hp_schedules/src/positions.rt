@@ -66,7 +66,10 @@ impl Positions {
         cursor.op
     }
 
-    /// Returns whether the next call of a processor may be a Begin. If not, it is none.
+    /// Returns whether the next call of a processor may be a Begin.
+    ///
+    /// A search numbers the states before a Begin. No promise rests on the answer: without the
+    /// number of a state, later places are only walked again.
     pub fn may_begin(&self, scripts: &[CallScript]) -> bool {
         for index in 0..self.cursors.len() {
             let Some(script) = scripts.get(index) else {
