@@ -13,9 +13,9 @@ those of the first orders, also where memory or time ends the search. An interle
 an order has an end with the lines; it is one of those orders, with the fewest changes of processor;
 and where there is none, that is told. Of one in four, with a limit of states, no memory or time a
 search tells the same, or that it does not know, after which states and by which option. `--never`
-prints the same with the other status, `--scenario 1` writes what is found as a scenario with the
-setup's lines before the calls, `--json` the same as an object, scripts that use 0 before a begin
-are told, and a text that no end has as a line ends with status 2.
+prints the same with the other status, threads find the same (`--jobs`), `--scenario 1` writes what
+is found as a scenario with the setup's lines before the calls, `--json` the same as an object,
+scripts that use 0 before a begin are told, and a text that no end has as a line ends with status 2.
 
 `--group` puts those ends together that agree in their blocks, in their answers, or in how the plans
 of each processor ended, and adds their counts, in words and as JSON, also past a limit; `--summary` has a line of each end or group with
@@ -370,6 +370,9 @@ def check_search(checks, programs, scenario, setup, before, orders, texts):
     if not found:
         absent = (3, "ends so: 0\n")
         checks.holds(where, (status, text) == absent, f"says {status}, {text!r}")
+        for jobs in ("2", "5"):
+            threads = programs.find(scenario, setup, "--find", texts, "--jobs", jobs)
+            checks.holds(where, threads == absent, f"--jobs {jobs} says {threads}")
         replay = programs.find(scenario, setup, "--find", texts, "--scenario", "1")
         checks.holds(where, replay == (3, ""), f"--scenario 1 says {replay}")
         check_object(checks, programs, scenario, setup, texts,
@@ -380,10 +383,10 @@ def check_search(checks, programs, scenario, setup, before, orders, texts):
     fewest = min(map(changes_of, found))
     checks.holds(where, (status, head) == (0, f"changes: {fewest}"), f"says {status}, {head!r}")
     checks.holds(where, calls in found and changes_of(calls) == fewest, f"{calls} is none of them")
-    status, text = programs.find(scenario, setup, "--find", texts, "--scenario", "1")
+    status, text = programs.find(scenario, setup, "--find", texts, "--scenario", "1", "--jobs", "3")
     replay = dict(scenario, calls=before + calls)
     is_so = status == 0 and json.loads(text) == replay
-    checks.holds(where, is_so, f"--scenario 1 says {status}, {text!r}")
+    checks.holds(where, is_so, f"--scenario 1 --jobs 3 says {status}, {text!r}")
     check_object(checks, programs, scenario, setup, texts,
                  (0, {"found": True, "changes": fewest, "first": calls}))
 

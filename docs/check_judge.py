@@ -16,6 +16,7 @@ What is tried:
   `--blocks`, `--allow` and `--most`; each is lawful exactly if all its parts are; and the picture of
   each has these blocks, their frames in use, and where they are going online or offline and where
   that ended;
+- 300 random lawful logs, each without one alloc or free of a single frame: at most one fault;
 - a picture of a longer log, and of the log of Linux;
 - logs that say on their first line how many frames a memory block has;
 - the logs of 2,000 random scenarios of our own machine, with events of all kinds, undos, cancels and
@@ -631,6 +632,22 @@ def check_random(checks, judge):
     checks.holds("random", LOGS // 3 < unlawful < LOGS, str(unlawful))
 
 
+def check_missing(checks, judge):
+    """A lawful log that lacks the alloc or the free of one frame has at most one fault."""
+    random.seed(62)
+    told = Counter()
+    for number in range(LOGS):
+        log = lawful_log(random.choice([30, 60]))
+        single = [at for at, event in enumerate(log) if event[0] in ("alloc", "free") and event[2] == 0]
+        del log[random.choice(single)]
+        text = "\n".join(map(line_of, log))
+        _status, report, said = judge.report(text, "--block-frames", str(SIZE), "--most", "1000")
+        faults = told_faults(report)
+        told[len(faults)] += 1
+        checks.holds(f"one missing, log {number}", len(faults) < 2, f"{faults} {said}\n{text}")
+    checks.holds("one missing", told[1] > LOGS // 10, str(told))
+
+
 # ---- logs of our own machine
 
 MORE = ("online {block} normal", "begin normal {block}", "begin movable {block}", "undo {late}", "undo {late}",
@@ -846,6 +863,7 @@ def main():
     checks, judge = Checks(), Judge(crates.resolve())
     check_linux(checks, judge)
     check_random(checks, judge)
+    check_missing(checks, judge)
     check_pictures(checks, judge)
     check_first_lines(checks, judge)
     check_own(checks, judge)

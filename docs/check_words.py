@@ -28,6 +28,7 @@ CALLS = ["0 map db 0", "0 write db 0 0 7", "1 map db 1", "0 kalloc 0", "1 unmap 
 READS = 13
 READ_ORDERS = 10400600
 NO_COMMAND = "hotplug: serial, run or audit\n"
+UNCOUNTED = "hotplug_lab: with --find or --never, --jobs cannot be used with --limit\n"
 NO_SCENARIO = "hotplug_lab: no such interleaving was found, so no scenario is written\n"
 
 
@@ -384,6 +385,13 @@ def check_parts(checks, lab, scripts):
         said = "hotplug_lab: --jobs may be 1 to 256\n" if expected else ""
         checks.same(f"explore --jobs {jobs}", (expected, "" if expected else plain[1], said),
                     (status, out, error))
+        for option in ("--find", "--never"):
+            words = ("explore", option, "refused NoFrame", "--jobs", jobs)
+            told = (2, "", said) if expected else lab.call(*words[:3], scenario=scripts)
+            checks.same(" ".join(words), told, lab.call(*words, scenario=scripts))
+    for option in ("--find", "--never"):
+        words = ("explore", option, "done", "--jobs", "1", "--limit", "9")
+        checks.same(" ".join(words), (2, "", UNCOUNTED), lab.call(*words, scenario=scripts))
 
 
 def answers_of(lab, scenario):
@@ -569,8 +577,8 @@ def check_lab(checks, lab):
                   ("explore", "--part", "1/2", "--never", "done"),
                   ("explore", "--part", "1/2", "--scenario", "1"),
                   ("explore", "--part", "1/2", "--jobs", "2"),
-                  ("explore", "--jobs", "2", "--find", "done"),
                   ("explore", "--jobs", "2", "--seconds", "9"),
+                  ("explore", "--jobs", "2", "--seconds", "9", "--find", "done"),
                   ("explore", "--group"), ("explore", "--group", "blocks", "--part", "1/2"),
                   ("explore", "--group", "blocks", "--scenario", "1"),
                   ("explore", "--group", "answers", "--find", "done"),

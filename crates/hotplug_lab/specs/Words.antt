@@ -70,8 +70,9 @@ IsAnswerOf (Check setup) input text status = IsCheckOf setup input text status
 IsAnswerOf (Explore asked form by jobs) input text status = IsExploringOf asked form by input text status
 IsAnswerOf (Part asked part) input text status = IsPartialOf asked part.now input text status
 IsAnswerOf (Sum form) input text status = IsAddedOf form input text status
-IsAnswerOf (Find setup wanted form) input text status = IsSearchOf setup wanted.now form 0 3 input text status
-IsAnswerOf (Never setup wanted form) input text status =
+IsAnswerOf (Find setup wanted form jobs) input text status =
+    IsSearchOf setup wanted.now form 0 3 input text status
+IsAnswerOf (Never setup wanted form jobs) input text status =
     IsSearchOf setup wanted.now form 3 0 input text status
 IsAnswerOf (Trace view) input text status = HasTrace view input text × (status ≡ 0)
 IsAnswerOf (Picture drawing) input text status = HasRows drawing.view input × (status ≡ 0)
@@ -90,8 +91,8 @@ IsLabCause (Explore asked form by jobs) input fault = IsFaultWithin input asked.
 IsLabCause (Part asked part) input fault =
     IsFaultOf input asked.setup fault × IsFullPart part.now input asked.setup asked.limit fault
 IsLabCause (Sum form) input fault = fault ≡ OutOfMemory
-IsLabCause (Find setup wanted form) input fault = IsFindFaultOf input setup wanted.now fault
-IsLabCause (Never setup wanted form) input fault = IsFindFaultOf input setup wanted.now fault
+IsLabCause (Find setup wanted form jobs) input fault = IsFindFaultOf input setup wanted.now fault
+IsLabCause (Never setup wanted form jobs) input fault = IsFindFaultOf input setup wanted.now fault
 IsLabCause (Trace view) input fault = fault ≡ OutOfMemory
 IsLabCause (Picture drawing) input fault = fault ≡ OutOfMemory
 IsLabCause Log input fault = fault ≡ OutOfMemory
@@ -104,8 +105,8 @@ IsScenarioCause (Check setup) input fault = ⊥
 IsScenarioCause (Explore asked form by jobs) input fault = ⊥
 IsScenarioCause (Part asked part) input fault = ⊥
 IsScenarioCause (Sum form) input fault = ⊥
-IsScenarioCause (Find setup wanted form) input fault = ⊥
-IsScenarioCause (Never setup wanted form) input fault = ⊥
+IsScenarioCause (Find setup wanted form jobs) input fault = ⊥
+IsScenarioCause (Never setup wanted form jobs) input fault = ⊥
 IsScenarioCause (Trace view) input fault = Fails fault (named_in input)
 IsScenarioCause (Picture drawing) input fault = Fails fault (named_in input)
 IsScenarioCause Log input fault = Fails fault (named_in input)

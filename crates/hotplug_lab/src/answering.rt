@@ -14,12 +14,13 @@ use hp_search::{
 };
 use hp_states::Watch;
 use std::alloc::Global;
+use std::sync::Wait;
 use std::thread::Threads;
 
 /// Returns the text and the exit status of a command on a scenario. `watch` gets the progress of a
 /// search.
 pub(crate) fn answer_to<W: Watch>(
-    rt: &(impl Threads + Sync),
+    rt: &(impl Threads + Wait + Sync),
     alloc: Global,
     input: &[u8],
     word: Word<'_>,
@@ -43,12 +44,14 @@ pub(crate) fn answer_to<W: Watch>(
             setup,
             wanted,
             form,
-        } => found(alloc, input, setup, wanted, form, watch),
+            jobs,
+        } => found(rt, alloc, input, setup, wanted, form, jobs, watch),
         Word::Never {
             setup,
             wanted,
             form,
-        } => never(alloc, input, setup, wanted, form, watch),
+            jobs,
+        } => never(rt, alloc, input, setup, wanted, form, jobs, watch),
         Word::Trace(view) => traced(alloc, input, view),
         Word::Picture(drawing) => drawn(alloc, input, drawing),
         Word::Log => logged(alloc, input),
@@ -58,7 +61,7 @@ pub(crate) fn answer_to<W: Watch>(
 
 /// Explores the interleavings of the scripts, at most `asked.limit` of them, in `jobs` threads.
 fn explored<W: Watch>(
-    rt: &(impl Threads + Sync),
+    rt: &(impl Threads + Wait + Sync),
     alloc: Global,
     input: &[u8],
     asked: ExploreOptions,
@@ -102,39 +105,43 @@ fn summed(alloc: Global, input: &[u8], form: EndsForm) -> Result<TextAndStatus, 
     Ok(answer_with(finding, 0, 3))
 }
 
-/// Searches for an interleaving whose end meets each of the wanted lines. The status is 0 if there
-/// is one, and 3 if there is none or that is not known.
+/// Searches in `jobs` threads for an interleaving whose end meets each of the wanted lines. The
+/// status is 0 if there is one, and 3 if there is none or that is not known.
 fn found<W: Watch>(
+    rt: &(impl Threads + Wait + Sync),
     alloc: Global,
     input: &[u8],
     setup: u64,
     wanted: &[Wanted],
     form: ScheduleForm,
+    jobs: u32,
     watch: &mut W,
 ) -> Result<TextAndStatus, LabProgramFault>
     ensures ok { IfOk result (λ answer.
         IsSearchOf setup wanted.now form 0 3 input.now (string_bytes answer.text) answer.status) }
-    ensures err { IfErr result (IsUnanswered (Find setup wanted.entry form) input.now) }
+    ensures err { IfErr result (IsUnanswered (Find setup wanted.entry form jobs) input.now) }
 {
-    let finding = find_text(alloc, input, setup, wanted, form, watch)?;
+    let finding = find_text(rt, alloc, input, setup, wanted, form, jobs, watch)?;
     Ok(find_answer(finding, 0, 3))
 }
 
-/// Searches for an interleaving whose end meets each of the wanted lines, to show that there is
-/// none. The status is 0 if there is none, and 3 if there is one or that is not known.
+/// Searches in `jobs` threads for an interleaving whose end meets each of the wanted lines, to show
+/// that there is none. The status is 0 if there is none, and 3 if there is one or that is not known.
 fn never<W: Watch>(
+    rt: &(impl Threads + Wait + Sync),
     alloc: Global,
     input: &[u8],
     setup: u64,
     wanted: &[Wanted],
     form: ScheduleForm,
+    jobs: u32,
     watch: &mut W,
 ) -> Result<TextAndStatus, LabProgramFault>
     ensures ok { IfOk result (λ answer.
         IsSearchOf setup wanted.now form 3 0 input.now (string_bytes answer.text) answer.status) }
-    ensures err { IfErr result (IsUnanswered (Never setup wanted.entry form) input.now) }
+    ensures err { IfErr result (IsUnanswered (Never setup wanted.entry form jobs) input.now) }
 {
-    let finding = find_text(alloc, input, setup, wanted, form, watch)?;
+    let finding = find_text(rt, alloc, input, setup, wanted, form, jobs, watch)?;
     Ok(find_answer(finding, 3, 0))
 }
 

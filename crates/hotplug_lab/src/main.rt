@@ -29,6 +29,7 @@ use hp_streams::{Sink, Source};
 use serving::{serve_text, serve_word};
 use std::alloc::Global;
 use std::process::ExitCode;
+use std::sync::Wait;
 use std::thread::{self, Threads};
 
 /// Runs the commands of the program.
@@ -36,7 +37,7 @@ use std::thread::{self, Threads};
 struct Searches;
 
 impl Laboratory for Searches {
-    fn serve<T: Threads + Sync, R: Source, W: Sink, P: Watch + Drop>(
+    fn serve<T: Threads + Wait + Sync, R: Source, W: Sink, P: Watch + Drop>(
         &self,
         threads: &T,
         alloc: Global,
@@ -48,7 +49,7 @@ impl Laboratory for Searches {
         serve_word(threads, alloc, word, reader, writer, watch)
     }
 
-    fn serve_text<T: Threads + Sync, W: Sink, P: Watch + Drop>(
+    fn serve_text<T: Threads + Wait + Sync, W: Sink, P: Watch + Drop>(
         &self,
         threads: &T,
         alloc: Global,

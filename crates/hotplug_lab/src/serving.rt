@@ -13,6 +13,7 @@ use hp_search::LabProgramFault;
 use hp_states::Watch;
 use hp_streams::{Failed, Sink, Source, read_all, write_all};
 use std::alloc::Global;
+use std::sync::Wait;
 use std::thread::Threads;
 
 /// Reads a scenario, runs a command on it, and writes the text. `watch` gets the progress of a
@@ -21,7 +22,7 @@ use std::thread::Threads;
 /// Returns the exit status. If the command searches interleavings, also returns, per processor, the
 /// first script line that works on operation 0 although the processor has begun none.
 pub fn serve_word<R: Source, W: Sink, P: Watch + Drop>(
-    rt: &(impl Threads + Sync),
+    rt: &(impl Threads + Wait + Sync),
     alloc: Global,
     word: Word<'_>,
     reader: &mut R,
@@ -55,7 +56,7 @@ pub fn serve_word<R: Source, W: Sink, P: Watch + Drop>(
 /// Runs a command on the text of a scenario, and writes the result. Does and returns what
 /// `serve_word` does and returns after it has read that text.
 pub fn serve_text<W: Sink, P: Watch + Drop>(
-    rt: &(impl Threads + Sync),
+    rt: &(impl Threads + Wait + Sync),
     alloc: Global,
     word: Word<'_>,
     input: &[u8],
@@ -97,7 +98,7 @@ fn write_answer<W: Sink>(writer: &mut W, answer: &TextAndStatus) -> Result<u8, L
 /// Returns the text and the exit status of a command on a scenario. `watch` gets the progress of a
 /// search, and is dropped.
 fn watched_answer<P: Watch + Drop>(
-    rt: &(impl Threads + Sync),
+    rt: &(impl Threads + Wait + Sync),
     alloc: Global,
     input: &[u8],
     word: Word<'_>,

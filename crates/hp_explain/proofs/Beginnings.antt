@@ -13,7 +13,7 @@ use Rattle.hp_schedules.specs.declared.line_answers.FinishedLine.{FinishedLine}
 use Rattle.hp_schedules.proofs.LineAnswers.{grow_at, others_stay}
 use Rattle.hp_schedules.proofs.Plays.{caller, plays_on, plays_one, stays_none}
 use Rattle.hp_explore.specs.Aims.{IsTried, MayBeSkipped}
-use Rattle.hp_explore.specs.Counted.{continued}
+use Rattle.hp_explore.proofs.Continued.{continued}
 use Rattle.hp_explain.specs.Continued.{split_in}
 use Rattle.hp_explain.specs.Explainers.{aim_of}
 use Rattle.hp_explain.specs.Explaining.{AreAsSeen, AreInTime, HasSeen, IsExplained, MayRun, calls_left}

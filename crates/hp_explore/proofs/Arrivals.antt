@@ -55,7 +55,7 @@ turn_over aim p q s t next visited v lawful is less here played forth same =
 -- ---- the call that was made
 
 -- is followed by the visited places
-followed : (p : PathValue) (cpu : ℕ) (event : Event) (latest : Record) (cursors : List Cursor)
+pub followed : (p : PathValue) (cpu : ℕ) (event : Event) (latest : Record) (cursors : List Cursor)
     (old new : Visited)
     → next_call p.setting cpu p.news ≡ Some event → latest ≡ record_of_call p.setting p.news cpu event
     → (old.is_on ≡ true → AreMergeable p.setting.scripts) → AreFollowed p.setting p.news old

@@ -12,7 +12,7 @@ use Rattle.hp_questions.specs.Wanted.{Meets}
 use Rattle.hp_questions.specs.declared.wanted.Wanted.{Wanted}
 use Rattle.hp_explore.specs.Aims.{FillsSearch, IsFirstSought, IsSearchCause, MayBeSkipped}
 use Rattle.hp_explore.specs.Changes.{changes}
-use Rattle.hp_explore.specs.Counted.{continued}
+use Rattle.hp_explore.proofs.Continued.{continued}
 use Rattle.hp_explore.specs.FindFaults.{IsPassCause}
 use Rattle.hp_explore.specs.Reaching.{Exceeds, IfUnbounded, IsFirstWithin, IsWithin, Reaches}
 use Rattle.hp_explore.specs.Withins.{aim_within}

@@ -1,7 +1,6 @@
 -- The operations by which a search numbers operations, as it goes on and back.
-use Rattle.std.proofs.Common.{◌≡◌, ℕ, ◌-◌, List, [], ◌∷◌, ◌++◌, drop, length, take, refl, ap, subst, sym, ◌∙◌, arith}
+use Rattle.std.proofs.Common.{◌≡◌, ℕ, ◌-◌, List, [], ◌∷◌, ◌++◌, drop, length, take, refl, ap, sym, ◌∙◌, arith}
 use Rattle.std.specs.Prelude.{fold, slice_range}
-use Rattle.std.specs.List.{range_with_len}
 use Rattle.std.proofs.Math.Seq.{drop-append_seam, take-append_seam}
 use Rattle.std.proofs.lemmas.List.{append-nil, append_assoc, length-append, length-drop, take_all}
 use Rattle.std.proofs.lemmas.List.FromFn.{length-map-range_with_len}
@@ -11,7 +10,7 @@ use Rattle.hp_units.specs.declared.replies.Record.{Record}
 use Rattle.hp_renumbering.specs.Numberings.{number_of}
 use Rattle.hp_schedules.specs.Schedules.{Setting}
 use Rattle.hp_schedules.specs.Scripts.{greatest_named, own_operation}
-use Rattle.hp_explore.specs.LatestOps.{Along, AreLatestAt, along, along_with, ended, last_of, latest_here, numbering, ops_after, ops_at}
+use Rattle.hp_explore.specs.LatestOps.{Along, AreLatestAt, along, along_with, ended, last_of, latest_here, numbering, ops_at}
 use Rattle.hp_explore.specs.declared.latest_ops.LatestOps.{LatestOps}
 
 -- ---- the operations at the places of a path

@@ -29,7 +29,7 @@ use Rattle.hp_states.proofs.StopNumbers.{openings_join}
 use Rattle.hp_explore.specs.Aims.{AimValue, AreSteered, IsDone, IsLawful}
 use Rattle.hp_explore.specs.SteeredBelow.{steered_apart, steered_at}
 use Rattle.hp_explore.specs.LatestOps.{numbering, ops_at}
-use Rattle.hp_explore.specs.Visited.{ArePlaceNumbers, IsPlaceKey, numbered_state}
+use Rattle.hp_explore.specs.Visited.{ArePlaceNumbers, IsPlaceKey, IsWritten, numbered_state}
 use Rattle.hp_explore.proofs.LatestNumbers.{later_number, scripts_named}
 
 -- ---- parts of keys
@@ -86,22 +86,28 @@ numbers_made g aim stops news given scripts cursors processors numbers none firs
       marked = marks.2;
     }
 
--- the key has the numbers and the state
-pub place_key : (g : Setting) (aim : AimValue) (stops : StopsValue) (news : List Record)
-    (numbers : List ℕ) (p : ℕ → ℕ) (m : MemoryValue)
+-- the key was written, with the numbers and the state
+pub key_written : (g : Setting) (aim : AimValue) (stops : StopsValue) (news : List Record)
+    (numbers given key : List ℕ) (p : ℕ → ℕ) (m : MemoryValue)
+    → given ≡ numbers → key ≡ place_code m.layout given (renumbered p m.state)
     → IsShaped m.layout (renumbered p m.state) → p ≡ numbering g news → m ≡ memory_at g news
-    → ArePlaceNumbers g aim stops news numbers
-    → IsPlaceKey g aim stops news (place_code m.layout numbers (renumbered p m.state))
-place_key g aim stops news numbers p m shaped same here are = record {
-  numbers = numbers;
-  are = are;
-  key_is =
-      ap (λ (q : ℕ → ℕ). place_code m.layout numbers (renumbered q m.state)) same
-      ∙ ap (λ (v : MemoryValue). place_code v.layout numbers (renumbered (numbering g news) v.state)) here;
-  shaped =
-      subst (λ (v : MemoryValue). IsShaped v.layout (renumbered (numbering g news) v.state)) here
-      (subst (λ (q : ℕ → ℕ). IsShaped m.layout (renumbered q m.state)) same shaped);
-}
+    → ArePlaceNumbers g aim stops news numbers → IsWritten g aim stops news numbers key
+key_written g aim stops news numbers given key p m same is shaped numbered here are = (
+  record {
+    numbers = numbers;
+    are = are;
+    key_is =
+        is
+        ∙ (ap (λ (ns : List ℕ). place_code m.layout ns (renumbered p m.state)) same
+        ∙ (ap (λ (q : ℕ → ℕ). place_code m.layout numbers (renumbered q m.state)) numbered
+        ∙ ap (λ (v : MemoryValue). place_code v.layout numbers (renumbered (numbering g news) v.state))
+        here));
+    shaped =
+        subst (λ (v : MemoryValue). IsShaped v.layout (renumbered (numbering g news) v.state)) here
+        (subst (λ (q : ℕ → ℕ). IsShaped m.layout (renumbered q m.state)) numbered shaped);
+  },
+  refl,
+)
 
 -- the parts of two keys that are one
 pub key_parts : (g : Setting) (aim : AimValue) (stops : StopsValue) (h k : List Record)

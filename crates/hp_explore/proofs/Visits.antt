@@ -1,20 +1,25 @@
 -- The places that a search has visited, as it goes on and back.
-use Rattle.std.proofs.Common.{◌≡◌, ℕ, Bool, true, false, List, [], ◌∷◌, ◌++◌, length, Some, slice_get, ap, sym, subst, ◌∙◌, arith, inl, inr}
-use Rattle.std.specs.Prelude.{◌⊎◌}
+use Rattle.std.proofs.Common.{◌≡◌, ℕ, Bool, true, false, List, [], ◌∷◌, ◌++◌, length, Some, slice_get, refl, ap, sym, subst, ◌∙◌, arith, inl, inr}
+use Rattle.std.specs.Prelude.{◌⊎◌, map}
+use Rattle.std.proofs.lemmas.Option.{same_Some}
 use Rattle.std.proofs.lemmas.List.{append-nil, append_assoc, length-append, length-map, length_push}
 use Rattle.hp_laws.proofs.Lists.{get_push_cases}
+use Rattle.hp_units.specs.History.{net_of}
 use Rattle.hp_units.specs.declared.replies.Record.{Record}
 use Rattle.hp_schedules.specs.Alike.{AreMergeable}
 use Rattle.hp_schedules.specs.Continuing.{ContinueAlike}
+use Rattle.hp_schedules.specs.Openings.{AreOpen, NumberedOpening, Opening, renumbered_opening}
 use Rattle.hp_schedules.specs.Orders.{Extends}
 use Rattle.hp_schedules.specs.Schedules.{Setting, plays, schedule_of}
 use Rattle.hp_states.specs.Codes.{IsFoundOrAdded}
+use Rattle.hp_states.specs.Interned.{KeepNumbers}
+use Rattle.hp_states.specs.Numbered.{AreNamed, IsNumbered}
 use Rattle.hp_states.specs.Stops.{KeepStops, StopsValue}
 use Rattle.hp_explore.specs.LatestOps.{numbering}
 use Rattle.hp_states.proofs.Rooms.{push_extends}
 use Rattle.hp_states.proofs.Numbered.{number_kept}
 use Rattle.hp_explore.specs.Aims.{AimValue, IsDone, IsLawful, IsNarrower}
-use Rattle.hp_explore.specs.Visited.{AreVisited, ArePlaceNumbers, IsKept, IsKnown, IsPlaceKey, IsVisited}
+use Rattle.hp_explore.specs.Visited.{AreVisited, ArePlaceNumbers, IsKept, IsKnown, IsPlaceKey, IsVisited, no_stops}
 use Rattle.hp_explore.specs.declared.visited.Visited.{Visited}
 use Rattle.hp_explore.proofs.PlaceKeys.{done_alike, keys_alike}
 
@@ -123,6 +128,52 @@ pub key_added : (g : Setting) (aim : AimValue) (news : List Record) (stops : Sto
 key_added g aim news stops was keys new key true same told is_old is = absurd cc
 key_added g aim news stops was keys new key false same told is_old is =
     inr (key, same ∙ ap (λ (ks : List (List ℕ)). ks ++ key ∷ []) is_old, is)
+
+-- ---- keys that mean the same in each search
+
+-- the numbers of a place at which no operation can be undone by a Cancel
+anywhere_numbers : (g : Setting) (aim : AimValue) (stops : StopsValue) (news : List Record)
+    (numbers : List ℕ) → KeepNumbers ([] ∷ []) stops.lists → slice_get numbers 0 ≡ Some 0
+    → ArePlaceNumbers g aim stops news numbers → ArePlaceNumbers g aim no_stops news numbers
+anywhere_numbers g aim stops news numbers base zero are = record {
+  openings = 0;
+  steering = are.steering;
+  marks = are.marks;
+  numbers_are =
+      are.numbers_are ∙ ap (λ (n : ℕ). (n ∷ are.steering) ++ are.marks) none;
+  numbered = by_list are.numbered.0 empty are.numbered.1 are.numbered.3 are.numbered.4;
+  steered = are.steered;
+  marked = are.marked;
+}
+  where
+    none : are.openings ≡ 0
+    none =
+        same_Some are.openings 0
+        (sym (ap (λ (ns : List ℕ). slice_get ns 0) are.numbers_are) ∙ zero)
+
+    empty : are.numbered.0 ≡ []
+    empty =
+        same_Some are.numbered.0 []
+        (sym are.numbered.2
+        ∙ (ap (λ (n : ℕ). slice_get stops.lists n) none ∙ base 0 [] refl))
+
+    by_list : (ns : List NumberedOpening) → ns ≡ [] → (os : List Opening)
+        → AreNamed g.layout stops.codes ns (map (renumbered_opening (numbering g news)) os)
+        → AreOpen g.layout g.base (net_of (g.start ++ news)) os
+        → IsNumbered (numbering g news) g no_stops.codes no_stops.lists news (Some 0)
+    by_list [] is [] named opened = ([], [], refl, tt, opened)
+    by_list [] is (o ∷ os) named opened = absurd named
+    by_list (n ∷ ns) is os named opened = absurd cc
+
+pub anywhere : (g : Setting) (aim : AimValue) (stops : StopsValue) (news : List Record)
+    (key : List ℕ) → KeepNumbers ([] ∷ []) stops.lists → (is : IsPlaceKey g aim stops news key)
+    → slice_get is.numbers 0 ≡ Some 0 → IsPlaceKey g aim no_stops news key
+anywhere g aim stops news key base is zero = record {
+  numbers = is.numbers;
+  are = anywhere_numbers g aim stops news is.numbers base zero is.are;
+  key_is = is.key_is;
+  shaped = is.shaped;
+}
 
 -- ---- a longer schedule
 

@@ -1,12 +1,15 @@
 pub mod Adding
 pub mod Aims
+pub mod Beside
 pub mod CausesBelow
 pub mod Changes
-pub mod Counted
+pub mod DonePlaces
 pub mod Faults
 pub mod FindFaults
 pub mod Frames
 pub mod Fronts
+pub mod LatestOps
+pub mod LookedUp
 pub mod Paths
 pub mod Reaching
 pub mod Searches
@@ -16,4 +19,3 @@ pub mod Sums
 pub mod Visited
 pub mod Walks
 pub mod Withins
-pub mod LatestOps

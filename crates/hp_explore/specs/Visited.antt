@@ -1,5 +1,5 @@
 -- The places that a search has visited, each by its key.
-use Rattle.std.specs.Prelude.{◌≡◌, ◌⊎◌, ℕ, Bool, true, false, List, [], ◌∷◌, ◌++◌, Some, length, slice_get}
+use Rattle.std.specs.Prelude.{◌≡◌, ◌⊎◌, ℕ, Bool, true, false, List, [], ◌∷◌, ◌++◌, None, Some, length, slice_get}
 use Rattle.hp_units.specs.History.{value_of}
 use Rattle.hp_units.specs.Memory.{Memory}
 use Rattle.hp_units.specs.Placement.{IsShaped}
@@ -41,6 +41,20 @@ pub record IsPlaceKey (g : Setting) (aim : AimValue) (stops : StopsValue) (news 
   pub are : ArePlaceNumbers g aim stops news numbers
   pub key_is : key ≡ place_code g.layout numbers (numbered_state g news)
   pub shaped : IsShaped g.layout (numbered_state g news)
+
+-- the only list is the empty one, with the number 0. By these numbers a place has a code only if no
+-- operation can be undone there by a Cancel
+abbrev pub no_stops : StopsValue
+no_stops = record {
+  codes = [];
+  lists = [] ∷ [];
+  here = record { openings = None; state = None };
+  before = [];
+}
+
+-- the key of the place was written, with these numbers
+abbrev pub IsWritten : Setting → AimValue → StopsValue → List Record → (numbers key : List ℕ) → Type 0
+IsWritten g aim stops news numbers key = (is : IsPlaceKey g aim stops news key) × (is.numbers ≡ numbers)
 
 -- the key belongs to an admitted place, which either is done or is on the schedule's path
 pub record IsVisited (g : Setting) (aim : AimValue) (schedule : List ℕ) (stops : StopsValue)

@@ -24,10 +24,10 @@ use Rattle.hp_questions.specs.Marks.{AreMarks, PlansGoOn, asks_no_plans}
 use Rattle.hp_questions.specs.Wanted.{Meets}
 use Rattle.hp_questions.specs.declared.wanted.Wanted.{Wanted}
 use Rattle.hp_questions.proofs.Marking.{marks_meet, replies_append}
+use Rattle.hp_questions.proofs.SameMarks.{marks_long, same_marks}
 use Rattle.hp_explore.specs.Aims.{AimValue, HaveSameKey, IsLawful, IsNarrower}
 use Rattle.hp_explore.specs.CausesBelow.{AreCausedBelow, answered_alike}
 use Rattle.hp_explore.specs.Changes.{changes, changes_after}
-use Rattle.hp_explore.specs.Counted.{calls_counted_alike}
 use Rattle.hp_explore.specs.Reaching.{IsWithin, Reaches}
 use Rattle.hp_schedules.specs.Starts.{same_starts}
 
@@ -88,7 +88,7 @@ same_parts : (g : Setting) (wanted : List Wanted) (budget : Option ℕ) (h k : L
 same_parts g wanted budget h k marks a b = record { met = two.0; spent = two.1; causes = one.1 }
   where
     long : length a.met ≡ length b.met
-    long = a.met_are.many ∙ sym b.met_are.many
+    long = marks_long g.layout.cpus g.scripts wanted (length g.scripts) h k a.met b.met a.met_are b.met_are
 
     one : (a.met ++ a.spent ≡ b.met ++ b.spent) × (a.causes ≡ b.causes)
     one =
@@ -107,13 +107,12 @@ same_parts g wanted budget h k marks a b = record { met = two.0; spent = two.1; 
 
 within_counted : (g : Setting) (wanted : List Wanted) (budget : Option ℕ) (h k : List Record)
     (marks : List ℕ)
-    → plays g (schedule_of h) ≡ Some h → plays g (schedule_of k) ≡ Some k
     → IsMarked g wanted budget h marks → IsMarked g wanted budget k marks → length h ≡ length k
-within_counted g wanted budget h k marks first second a b =
-    calls_counted_alike g wanted h k b.met first second
+within_counted g wanted budget h k marks a b =
+    (same_marks g.layout.cpus g.scripts wanted (length g.scripts) h k b.met
     (subst (AreMarks g.layout.cpus g.scripts wanted (length g.scripts) h)
     (same_parts g wanted budget h k marks a b).met a.met_are)
-    b.met_are
+    b.met_are).0
 
 -- the changes of a schedule and its continuation add up: the changes up to the schedule's latest call,
 -- and the changes after this call
@@ -295,7 +294,7 @@ pub within_lawful : (g : Setting) (wanted : List Wanted) (budget : Option ℕ)
     → IsLawful g (aim_within g wanted budget)
 within_lawful g wanted budget = record {
   played = λ s sought. (sought.0.1.news, sought.0.1.played);
-  counted = within_counted g wanted budget;
+  counted = λ h k marks first second a b. within_counted g wanted budget h k marks a b;
   continued = λ h k marks rest same first second a b sought.
       within_continued g wanted budget h k marks rest same a b sought;
 }

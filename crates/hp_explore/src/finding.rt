@@ -7,14 +7,18 @@ ghost use Rattle.hp_explore.specs.Reaching.{HasRoomAlong, IsFound, IsNearest, Is
 ghost use Rattle.hp_explore.specs.declared.fault.FindFault.TheVariants.{Stopped};
 
 use crate::Watch;
+use crate::absent::is_absent;
 use crate::changes::changes_of;
 use crate::fault::FindFault;
+use crate::jobs::MOST_JOBS;
 use crate::within::first_within;
 use hp_machine::Machine;
 use hp_questions::Wanted;
 use hp_schedules::CallScript;
 use hp_units::Cpu;
 use std::alloc::Global;
+use std::sync::Wait;
+use std::thread::Threads;
 
 /// The search tries the schedules with fewer changes than this before it tries all.
 const FEW: u64 = 3;
@@ -30,17 +34,22 @@ pub enum Found {
 }
 
 /// Finds a complete schedule whose end meets all wanted lines, with the fewest changes of
-/// processor. Script k is that of processor k.
+/// processor, in `jobs` threads, at most 256. Script k is that of processor k.
 ///
 /// Of several such schedules, returns the first in the order of `explore`. The machine is not
 /// changed. `watch` may end the search. It is called at each place from which the search goes on,
-/// except at the beginning of the scripts.
+/// except at the beginning of the scripts, but not while several threads search.
 ///
 /// The search has three steps. It tries the schedules with fewer than three changes, by rising
 /// number of changes. If none of these ends as wanted, it tries all, up to the first that does.
 /// Then it tries the schedules with fewer changes than that one. A pass skips a place that is
 /// equivalent to one that it has tried. It skips none if a script undoes steps by their serials, or
 /// works on the operation of its n-th Begin (`OwnWork::Nth`).
+///
+/// With several threads, each of them tries all schedules before the second step, in an order of
+/// its own, and skips a place that is equivalent to one with which some thread is done. If one of
+/// them comes to the end of its search, no schedule ends as wanted. If one finds a schedule, or if
+/// they take more than the memory that `watch` allows, a single thread makes the second step.
 ///
 /// # Errors
 ///
@@ -50,11 +59,13 @@ pub enum Found {
 /// ends as wanted comes before the call.
 ///
 /// `Stopped` if the watch ended the search, `OutOfMemory` if memory allocation fails.
-pub fn find<W: Watch>(
+pub fn find<R: Threads + Wait + Sync, W: Watch>(
+    rt: &R,
     alloc: Global,
     machine: &Machine,
     scripts: &[CallScript],
     wanted: &[Wanted],
+    jobs: u32,
     watch: &mut W,
 ) -> Result<Found, FindFault>
     requires { length scripts.now < 2 ^ 32 }
@@ -77,9 +88,34 @@ pub fn find<W: Watch>(
     )? {
         return Ok(Found::Nearest(schedule));
     }
-    match first_within(alloc, machine, scripts, wanted, None, watch, &mut places)? {
+    let jobs = jobs.min(MOST_JOBS);
+    if is_absent(rt, alloc, machine, scripts, wanted, jobs, watch.memory()) {
+        return Ok(Found::Absent);
+    }
+    nearest_of_all(alloc, machine, scripts, wanted, watch, &mut places)
+}
+
+/// Returns the first schedule with the fewest changes among those that end as wanted. None of these
+/// has fewer than `FEW` changes.
+fn nearest_of_all<W: Watch>(
+    alloc: Global,
+    machine: &Machine,
+    scripts: &[CallScript],
+    wanted: &[Wanted],
+    watch: &mut W,
+    places: &mut u64,
+) -> Result<Found, FindFault>
+    requires few { length scripts.now < 2 ^ 32 }
+    requires from { NeedsChanges (setting machine.now scripts.now) wanted.now FEW }
+    ensures ok { IfOk result (IsFound (setting machine.now scripts.now) wanted.now) }
+    ensures room { IfOk result (SparesHistory (setting machine.now scripts.now)) }
+    ensures along { IfOk result (IsRecorded (setting machine.now scripts.now)) }
+    ensures err { IfErr result (IsFindCause (setting machine.now scripts.now) wanted.now) }
+    ensures stopped { IfErr result (λ fault. fault ≡ Stopped → W.has_ended watch.new) }
+{
+    match first_within(alloc, machine, scripts, wanted, None, watch, places)? {
         Some(known) => {
-            let schedule = nearest_to(alloc, machine, scripts, wanted, known, watch, &mut places)?;
+            let schedule = nearest_to(alloc, machine, scripts, wanted, known, watch, places)?;
             Ok(Found::Nearest(schedule))
         }
         None => Ok(Found::Absent),

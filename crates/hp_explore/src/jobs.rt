@@ -20,7 +20,7 @@ use std::thread;
 use std::thread::Threads;
 
 /// The largest number of threads.
-const MOST_JOBS: u32 = 256;
+pub(crate) const MOST_JOBS: u32 = 256;
 
 /// Watches the search of one part, and ends it once it takes more than `memory` bytes.
 #[derive(Drop)]

@@ -7,6 +7,8 @@
 //! - the search for the first schedule that an aim seeks (`searching`, `aim`). It skips a place
 //!   that is equivalent to a visited one (`visited`). For this it renumbers operations, so that it
 //!   does not matter when they began (`latest_ops`),
+//! - a search by several threads for whether a schedule ends as wanted (`absent`, `beside`), which
+//!   share the places with which they are done (`done_places`),
 //! - the merging of parts (`summing`, `jobs`).
 //!
 //! `finding` searches by rising number of changes of processor, as in CHESS (Musuvathi and Qadeer,
@@ -19,10 +21,13 @@
 //! specs/Reaching and specs/Sums.
 #![tactic(auto)]
 
+mod absent;
 mod aim;
+mod beside;
 mod calls;
 mod causes;
 mod changes;
+mod done_places;
 mod earlier;
 mod exploring;
 mod fault;

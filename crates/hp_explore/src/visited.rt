@@ -1,5 +1,5 @@
 //! The places that a search has visited, each by its key.
-ghost use Rattle.std.specs.Prelude.{◌≡◌, ◌++◌, ◌∷◌, ℕ, List, IfOk, OnOk, [], length, true};
+ghost use Rattle.std.specs.Prelude.{◌≡◌, ◌++◌, ◌∷◌, ℕ, List, IfOk, None, OnOk, Some, [], length, slice_get, true};
 ghost use Rattle.hp_units.specs.History.{effect_of};
 ghost use Rattle.hp_units.specs.declared.replies.Record.{Record as NewRecord};
 ghost use Rattle.hp_renumbering.specs.Numberings.{number_of};
@@ -9,31 +9,39 @@ ghost use Rattle.hp_schedules.specs.Schedules.{Setting, schedule_of};
 ghost use Rattle.hp_states.specs.Stops.{AreSameStops, KeepStops};
 ghost use Rattle.hp_explore.specs.Settings.{setting};
 ghost use Rattle.hp_explore.specs.Aims.{AreSteered};
-ghost use Rattle.hp_explore.specs.Visited.{AreFollowed, ArePlaceNumbers, IsLookedUp};
+ghost use Rattle.hp_explore.specs.Visited.{AreFollowed, ArePlaceNumbers, IsLookedUp, IsWritten};
+ghost use Rattle.hp_explore.specs.LookedUp.{IsLookedUpBeside};
+ghost use Rattle.hp_explore.specs.Withins.{aim_within};
+ghost use Rattle.hp_explore.specs.Aims.{IsDone};
+ghost use Rattle.hp_states.specs.Interned.{KeepNumbers};
 
 use crate::aim::Aim;
+use crate::done_places::{DonePlaces, Question};
 use crate::latest_ops::LatestOps;
 use crate::path::Path;
 use crate::walk::keeps_places;
+use crate::within::Within;
 use hp_machine::Machine;
 use hp_schedules::{CallScript, Positions, greatest_named, is_closed};
-use hp_states::{PlaceTable, Stops};
+use hp_states::{PlaceCode, PlaceSet, Stops};
 use hp_units::{Cpu, Record, Serial};
 use std::alloc::{AllocError, Global};
+use std::sync::Wait;
 
 /// The keys of the places that a search has visited, and the numbers of the place where it is.
 ///
 /// Two places with the same key continue alike: with the same calls, and the aim seeks the same
 /// continuations. So only one of them is tried. In keys, an operation in `latest` that is above
 /// `fixed` has a number that depends only on its processor, since it does not matter when it began.
-/// `numbers` has the numbers that were written last. If `is_on` is false, no place is ever kept.
+/// `numbers` and `key` are what was written last. If `is_on` is false, no place is ever kept.
 pub(crate) struct Visited {
     is_on: bool,
     fixed: Serial,
     latest: LatestOps,
     stops: Stops,
-    keys: PlaceTable,
+    keys: PlaceSet,
     numbers: Vec<u32>,
+    key: PlaceCode,
 }
 
 /// Keeps callers from proving again how each field is dropped.
@@ -46,6 +54,7 @@ impl Drop for Visited {
             stops: _stops,
             keys: _keys,
             numbers: _,
+            key: _key,
         } = self;
     }
 }
@@ -64,6 +73,7 @@ impl Visited {
         ensures none { IfOk result (λ visited. visited.keys ≡ []) }
         ensures mergeable { IfOk result (λ visited. visited.is_on ≡ true → AreMergeable scripts.now) }
         ensures way { IfOk result (λ visited. AreFollowed (setting machine.now scripts.now) [] visited) }
+        ensures base { IfOk result (λ visited. KeepNumbers ([] ∷ []) visited.stops.lists) }
     {
         let is_on = keeps_places(scripts);
         let fixed = greatest_named(scripts);
@@ -75,8 +85,9 @@ impl Visited {
             fixed,
             latest,
             stops,
-            keys: PlaceTable::new(alloc),
+            keys: PlaceSet::new(alloc),
             numbers: Vec::new(alloc),
+            key: PlaceCode::new(alloc),
         })
     }
 
@@ -118,8 +129,7 @@ impl Visited {
     }
 
     /// Returns whether a place with the same key as this one was visited. If not, keeps the key,
-    /// unless the place has none. A place has no key if it is unknown which operations a Cancel can
-    /// take back there, or if a number does not fit 32 bits.
+    /// unless the place has none.
     pub(crate) fn look_up<A: Aim>(
         &mut self,
         alloc: Global,
@@ -141,24 +151,150 @@ impl Visited {
         if !self.is_on {
             return Ok(false);
         }
+        if !self.write_key(path, schedule, processors, aim)? {
+            return Ok(false);
+        }
+        if self.keys.find_or_add(&self.key)? {
+            return Ok(true);
+        }
+        self.number_before_begin(alloc, path)?;
+        Ok(false)
+    }
+
+    /// Returns whether the place is done: a thread has told this of a place with the same key, or
+    /// it was visited. If not, keeps the key, unless it means the same in each thread.
+    pub(crate) fn look_up_beside<Q: Question, R: Wait>(
+        &mut self,
+        rt: &R,
+        alloc: Global,
+        path: &Path<'_>,
+        schedule: &[Cpu],
+        processors: u32,
+        aim: &Within<'_>,
+        done: &DonePlaces<Q>,
+    ) -> Result<bool, AllocError>
+        requires processors { processors ≡ length path.now.setting.scripts }
+        requires schedule { schedule.now ≡ schedule_of path.now.news }
+        requires setting { path.now.setting ≡ Q.setting }
+        requires aim { (aim.now.wanted.now ≡ Q.wanted) × (aim.now.budget ≡ None) }
+        requires way { AreFollowed path.now.setting path.now.news self.old }
+        requires base { KeepNumbers ([] ∷ []) self.old.stops.lists }
+        ensures on { OnOk result (self.new.is_on ≡ self.old.is_on) }
+        ensures kept { OnOk result (KeepStops self.old.stops self.new.stops) }
+        ensures way { OnOk result (AreFollowed path.now.setting path.now.news self.new) }
+        ensures ok { IfOk result (IsLookedUpBeside Q.setting (aim_within Q.setting Q.wanted None)
+            path.now.news self.old self.new) }
+    {
+        if !self.is_on {
+            return Ok(false);
+        }
+        if !self.write_key(path, schedule, processors, aim)? {
+            return Ok(false);
+        }
+        if self.is_common() {
+            if done.has(rt, &self.key) {
+                return Ok(true);
+            }
+        } else if self.keys.find_or_add(&self.key)? {
+            return Ok(true);
+        }
+        self.number_before_begin(alloc, path)?;
+        Ok(false)
+    }
+
+    /// Tells the other threads that the place is done, if its key means the same in each thread.
+    /// Returns false if they have no memory left for that.
+    pub(crate) fn tell_done<Q: Question, R: Wait>(
+        &mut self,
+        rt: &R,
+        path: &Path<'_>,
+        schedule: &[Cpu],
+        processors: u32,
+        aim: &Within<'_>,
+        done: &DonePlaces<Q>,
+    ) -> Result<bool, AllocError>
+        requires processors { processors ≡ length path.now.setting.scripts }
+        requires schedule { schedule.now ≡ schedule_of path.now.news }
+        requires setting { path.now.setting ≡ Q.setting }
+        requires aim { (aim.now.wanted.now ≡ Q.wanted) × (aim.now.budget ≡ None) }
+        requires way { AreFollowed path.now.setting path.now.news self.old }
+        requires base { KeepNumbers ([] ∷ []) self.old.stops.lists }
+        requires done { IsDone Q.setting (aim_within Q.setting Q.wanted None) schedule.now }
+        ensures same { (self.new.is_on ≡ self.old.is_on) × (self.new.stops ≡ self.old.stops)
+            × (self.new.keys ≡ self.old.keys) }
+        ensures way { AreFollowed path.now.setting path.now.news self.new }
+    {
+        if !self.is_on {
+            return Ok(true);
+        }
+        path.is_played();
+        if !self.write_key(path, schedule, processors, aim)? {
+            return Ok(true);
+        }
+        if !self.is_common() {
+            return Ok(true);
+        }
+        done.add(rt, &self.key)
+    }
+
+    /// Writes the key of the place, and returns whether it has one. A place has none if it is
+    /// unknown which operations a Cancel can take back there, or if a number does not fit 32 bits.
+    fn write_key<A: Aim>(
+        &mut self,
+        path: &Path<'_>,
+        schedule: &[Cpu],
+        processors: u32,
+        aim: &A,
+    ) -> Result<bool, AllocError>
+        requires processors { processors ≡ length path.now.setting.scripts }
+        requires schedule { schedule.now ≡ schedule_of path.now.news }
+        requires admitted { (A.shows aim.now path.now.setting).admits schedule.now }
+        requires way { AreFollowed path.now.setting path.now.news self.old }
+        requires on { self.old.is_on ≡ true }
+        ensures same { (self.new.is_on ≡ self.old.is_on) × (self.new.stops ≡ self.old.stops)
+            × (self.new.keys ≡ self.old.keys) }
+        ensures way { AreFollowed path.now.setting path.now.news self.new }
+        ensures ok { IfOk result (λ has. has ≡ true → IsWritten path.now.setting
+            (A.shows aim.now path.now.setting) self.new.stops path.now.news self.new.numbers.items
+            self.new.key) }
+    {
         if !self.write_numbers(path, schedule, processors, aim)? {
             return Ok(false);
         }
         let numbers = self.numbers.as_slice();
-        let memory = path.memory();
-        if self
-            .keys
-            .find_or_add(numbers, memory, self.fixed, self.latest.here())?
-        {
-            return Ok(true);
+        self.key
+            .write(numbers, path.memory(), self.fixed, self.latest.here())?;
+        Ok(true)
+    }
+
+    /// Returns whether the key means the same in all searches of these scripts by the same aim. The
+    /// first number is that of the list of operations that a Cancel can take back: 0 if there are
+    /// none.
+    fn is_common(&self) -> bool
+        ensures { result ≡ true → slice_get self.now.numbers.items 0 ≡ Some 0 }
+    {
+        match self.numbers.first() {
+            Some(number) => *number == 0,
+            None => false,
         }
-        // A Begin needs the number of the state before it. Without that number, later places would
-        // have no keys, and be walked again.
+    }
+
+    /// Numbers the state at the place if a Begin may come next.
+    ///
+    /// A Begin needs the number of the state before it. Without that number, later places would
+    /// have no keys, and be walked again.
+    fn number_before_begin(&mut self, alloc: Global, path: &Path<'_>) -> Result<(), AllocError>
+        requires way { AreFollowed path.now.setting path.now.news self.old }
+        requires on { self.old.is_on ≡ true }
+        ensures same { (self.new.is_on ≡ self.old.is_on) × (self.new.keys ≡ self.old.keys) }
+        ensures kept { KeepStops self.old.stops self.new.stops }
+        ensures way { AreFollowed path.now.setting path.now.news self.new }
+    {
         if path.positions().may_begin(path.scripts()) {
             self.stops
-                .number_state(alloc, memory, self.fixed, self.latest.here())?;
+                .number_state(alloc, path.memory(), self.fixed, self.latest.here())?;
         }
-        Ok(false)
+        Ok(())
     }
 
     /// Writes the numbers of the place, and returns whether it has them.
@@ -203,7 +339,7 @@ impl Visited {
 
     /// Returns about how many bytes the states and the keys take.
     pub(crate) fn bytes(&self) -> u64 {
-        self.stops.size().saturating_add(self.keys.bytes())
+        self.stops.size().saturating_add(self.keys.size())
     }
 }
 

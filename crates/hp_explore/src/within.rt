@@ -22,11 +22,13 @@ use std::alloc::{AllocError, Global};
 
 /// The wanted lines, and the most changes of processor, if there is a budget.
 #[derive(Clone, Copy, Drop)]
-struct Within<'a> {
+pub(crate) struct Within<'a> {
     /// Where the marks of lines about plans are allocated.
-    alloc: Global,
-    wanted: &'a [Wanted],
-    budget: Option<u64>,
+    pub(crate) alloc: Global,
+    /// The wanted lines.
+    pub(crate) wanted: &'a [Wanted],
+    /// The most changes of processor, if there is a budget.
+    pub(crate) budget: Option<u64>,
 }
 
 impl<'a> Aim for Within<'a> {

@@ -2,6 +2,12 @@
 ghost use Rattle.std.specs.Prelude.{◌↔◌, IfNone, IfSome, IsTrue};
 ghost use Rattle.hp_lab_shell.specs.Budgets.{HasLeft, HasReached, IsAbove, IsOver};
 
+use crate::arguments::{MEMORY, SECONDS};
+use clap::ArgMatches;
+
+/// The default number of MiB of states that a search may keep.
+pub(crate) const MEMORY_MIB: u64 = 2048;
+
 /// A budget of a search. The search is ended when a budget is used up.
 #[derive(Clone, Copy, PartialEq, Eq, Drop)]
 pub(crate) enum Budget {
@@ -90,5 +96,15 @@ fn has_reached(number: u64, limit: Option<u64>) -> bool
     match limit {
         Some(limit) => limit <= number,
         None => false,
+    }
+}
+
+/// Returns how far a search with this limit on its states may go.
+pub(crate) fn budgets_of(words: &ArgMatches<'_>, limit: Option<u64>) -> Budgets {
+    let memory = words.get_one::<u64>(MEMORY).unwrap_or(MEMORY_MIB);
+    Budgets {
+        limit,
+        memory: memory.saturating_mul(1 << 20),
+        seconds: words.get_one::<u64>(SECONDS),
     }
 }

@@ -4,13 +4,14 @@ ghost use Rattle.std.specs.Prelude.{◌≡◌};
 ghost use Rattle.hp_lab_shell.specs.Statuses.{explain_status};
 
 use crate::arguments::{PROGRESS, SCENARIO};
+use crate::budgets::budgets_of;
 use crate::explain_words::{ANSWERS_NAME, SCENARIO_NAME};
 use crate::files::{Unread, bytes_of};
 use crate::messages::{say_fault, say_no_scenario, say_unbegun};
 use crate::output::Output;
 use crate::progress::{Progress, Watching, shown_on};
 use crate::scripts::unbegun_in;
-use crate::words::{ONE_FOUND, budgets_of, schedule_form_from};
+use crate::words::{ONE_FOUND, schedule_form_from};
 use clap::ArgMatches;
 use hp_explain::{ExplainFault, ExplainResult, ExplainText, explain_text};
 use hp_search::{LabProgramFault, ScheduleForm};

@@ -8,6 +8,7 @@ use hp_starts::Unbegun;
 use hp_states::Watch;
 use hp_streams::{Sink, Source};
 use std::alloc::Global;
+use std::sync::Wait;
 use std::thread::Threads;
 
 /// The result of a command: the exit status, and what deserves a warning.
@@ -24,7 +25,7 @@ pub struct Served {
 pub trait Laboratory {
     /// Runs a command on the text that `reader` gives, and writes the result to `writer`. Some
     /// commands run in threads. `watch` gets the progress of a search.
-    fn serve<T: Threads + Sync, R: Source, W: Sink, P: Watch + Drop>(
+    fn serve<T: Threads + Wait + Sync, R: Source, W: Sink, P: Watch + Drop>(
         &self,
         threads: &T,
         alloc: Global,
@@ -39,7 +40,7 @@ pub trait Laboratory {
 
     /// Runs a command on a text in memory, and writes the result to `writer`. Some commands run in
     /// threads. `watch` gets the progress of a search.
-    fn serve_text<T: Threads + Sync, W: Sink, P: Watch + Drop>(
+    fn serve_text<T: Threads + Wait + Sync, W: Sink, P: Watch + Drop>(
         &self,
         threads: &T,
         alloc: Global,

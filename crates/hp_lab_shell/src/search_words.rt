@@ -74,7 +74,7 @@ pub(crate) const EXPLORE: [Argument; 14] = [
         name: JOBS,
         takes: Takes::Number,
         help: "Searches in this many threads, 1 to 256 (1)",
-        against: &[FIND, NEVER],
+        against: &[],
     },
     Argument {
         name: GROUP,

@@ -21,12 +21,13 @@ use hp_streams::Counted;
 use std::alloc::{AllocError, Global};
 use std::io::{IsTerminal, Read};
 use std::process::ExitCode;
+use std::sync::Wait;
 use std::thread::Threads;
 use std::{env, fs, io};
 
 /// Serves a request on the named files, or on standard input if no file is named, and returns the
 /// exit status. Standard error names a fault.
-fn serve_request<L: Laboratory, T: Threads + Sync>(
+fn serve_request<L: Laboratory, T: Threads + Wait + Sync>(
     rt: &HostRuntime,
     lab: &L,
     threads: &T,
@@ -69,7 +70,7 @@ fn status_of(rt: &HostRuntime, file: Option<&str>, served: Result<u8, LabProgram
 }
 
 /// Runs a command on the file with this name; `-` names standard input.
-fn serve_file<L: Laboratory, T: Threads + Sync>(
+fn serve_file<L: Laboratory, T: Threads + Wait + Sync>(
     rt: &HostRuntime,
     lab: &L,
     threads: &T,
@@ -87,7 +88,7 @@ fn serve_file<L: Laboratory, T: Threads + Sync>(
 }
 
 /// Runs a command on an input, and writes to standard output.
-fn serve_input<L: Laboratory, T: Threads + Sync, R: Read + Drop>(
+fn serve_input<L: Laboratory, T: Threads + Wait + Sync, R: Read + Drop>(
     rt: &HostRuntime,
     lab: &L,
     threads: &T,
@@ -110,7 +111,7 @@ fn serve_input<L: Laboratory, T: Threads + Sync, R: Read + Drop>(
 }
 
 /// Runs a command on the bytes of several files, and writes to standard output.
-fn serve_bytes<L: Laboratory, T: Threads + Sync>(
+fn serve_bytes<L: Laboratory, T: Threads + Wait + Sync>(
     rt: &HostRuntime,
     lab: &L,
     threads: &T,
@@ -177,7 +178,7 @@ fn push_line(alloc: Global, wanted: &mut Vec<Wanted>, text: &str) -> Result<bool
 }
 
 /// Runs the parsed command line, and returns the exit status.
-fn serve_matches<L: Laboratory, T: Threads + Sync>(
+fn serve_matches<L: Laboratory, T: Threads + Wait + Sync>(
     rt: &HostRuntime,
     lab: &L,
     threads: &T,
@@ -192,7 +193,7 @@ fn serve_matches<L: Laboratory, T: Threads + Sync>(
 }
 
 /// Runs the parsed command line on a scenario, and returns the exit status.
-fn serve_scenario<L: Laboratory, T: Threads + Sync>(
+fn serve_scenario<L: Laboratory, T: Threads + Wait + Sync>(
     rt: &HostRuntime,
     lab: &L,
     threads: &T,
@@ -217,7 +218,7 @@ fn serve_scenario<L: Laboratory, T: Threads + Sync>(
 
 /// Parses the command line and runs it, and returns the exit status. If it cannot be parsed, prints
 /// why, or the help.
-fn run<L: Laboratory, T: Threads + Sync>(
+fn run<L: Laboratory, T: Threads + Wait + Sync>(
     rt: &HostRuntime,
     lab: &L,
     threads: &T,
@@ -234,7 +235,7 @@ fn run<L: Laboratory, T: Threads + Sync>(
 }
 
 /// Reads the command line that the program was called with, and runs it.
-fn run_words<L: Laboratory, T: Threads + Sync>(
+fn run_words<L: Laboratory, T: Threads + Wait + Sync>(
     rt: &HostRuntime,
     lab: &L,
     threads: &T,
@@ -261,7 +262,7 @@ fn run_words<L: Laboratory, T: Threads + Sync>(
 /// nothing, if `--never` finds something, if no order explains the answers, or if such a search is
 /// stopped before it knows. It is 3 too if no end has the number of `--scenario`, if `explore`
 /// prints only the ends of the first interleavings, and if a log has faults. Otherwise it is 0.
-pub fn run_program<L: Laboratory, T: Threads + Sync>(
+pub fn run_program<L: Laboratory, T: Threads + Wait + Sync>(
     rt: &HostRuntime,
     lab: &L,
     threads: &T,

@@ -1,10 +1,9 @@
 //! The commands of the program, and how they are read from the command line.
 
 use crate::arguments::{
-    FILE, FIND, GROUP, HTML, JOBS, JSON, LOG, MEMORY, NEVER, PART, PROGRESS, SCENARIO, SECONDS,
-    SUMMARY,
+    FILE, FIND, GROUP, HTML, JOBS, JSON, LOG, NEVER, PART, PROGRESS, SCENARIO, SUMMARY,
 };
-use crate::budgets::Budgets;
+use crate::budgets::{Budgets, MEMORY_MIB, budgets_of};
 use crate::checks::ALL;
 use clap::ArgMatches;
 use hp_numbers::number64;
@@ -24,9 +23,6 @@ const SCALE: u64 = 100;
 const LEAST_SCALE: u64 = 25;
 
 const MOST_SCALE: u64 = 400;
-
-/// The default number of MiB of states that a search may keep.
-const MEMORY_MIB: u64 = 2048;
 
 /// The default width of a trace's rows in columns.
 pub(crate) const WIDTH: u64 = 200;
@@ -90,19 +86,21 @@ pub enum Word<'a> {
     },
     /// Add up all parts, whose texts come in place of a scenario.
     Sum(EndsForm),
-    /// Find an interleaving whose end meets each of the lines in `wanted`. The first `setup` lines
-    /// of the scenario run in order before it.
+    /// Find an interleaving whose end meets each of the lines in `wanted`, in `jobs` threads. The
+    /// first `setup` lines of the scenario run in order before it.
     Find {
         setup: u64,
         wanted: &'a [Wanted],
         form: ScheduleForm,
+        jobs: u32,
     },
-    /// Expect that no interleaving has an end that meets each of the lines in `wanted`. The first
-    /// `setup` lines of the scenario run in order before it.
+    /// Expect that no interleaving has an end that meets each of the lines in `wanted`, in a search
+    /// in `jobs` threads. The first `setup` lines of the scenario run in order before it.
     Never {
         setup: u64,
         wanted: &'a [Wanted],
         form: ScheduleForm,
+        jobs: u32,
     },
     /// Trace the reply to each line, with the memory after each call.
     Trace(View),
@@ -222,16 +220,6 @@ fn budgets_from(name: &str, words: &ArgMatches<'_>) -> Budgets {
     budgets_of(words, limit)
 }
 
-/// Returns how far a search with this limit on its states may go.
-pub(crate) fn budgets_of(words: &ArgMatches<'_>, limit: Option<u64>) -> Budgets {
-    let memory = words.get_one::<u64>(MEMORY).unwrap_or(MEMORY_MIB);
-    Budgets {
-        limit,
-        memory: memory.saturating_mul(1 << 20),
-        seconds: words.get_one::<u64>(SECONDS),
-    }
-}
-
 /// Returns the command of a subcommand and its options, or why it cannot be run.
 fn word_from<'a>(
     name: &str,
@@ -258,17 +246,21 @@ fn exploring_word<'a>(
     let setup = asked.setup;
     let form = schedule_form_from(words);
     if words.get_strs(FIND).is_some() {
+        let jobs = search_jobs_from(words)?;
         return Ok(Word::Find {
             setup,
             wanted,
             form,
+            jobs,
         });
     }
     if words.get_strs(NEVER).is_some() {
+        let jobs = search_jobs_from(words)?;
         return Ok(Word::Never {
             setup,
             wanted,
             form,
+            jobs,
         });
     }
     if words.get_str(PART).is_none() {
@@ -280,18 +272,32 @@ fn exploring_word<'a>(
     }
 }
 
-/// Returns the command of `explore` that counts all interleavings up to the limit, or what is wrong
-/// with its options.
-fn whole_word<'a>(asked: ExploreOptions, words: &ArgMatches<'_>) -> Result<Word<'a>, &'static str> {
+/// Returns in how many threads to search for an end, or what is wrong with the options. Several
+/// threads do not count the states that they reach.
+fn search_jobs_from(words: &ArgMatches<'_>) -> Result<u32, &'static str> {
+    if words.get_one::<u64>(JOBS).is_some() && words.get_one::<u64>("limit").is_some() {
+        return Err("with --find or --never, --jobs cannot be used with --limit");
+    }
+    jobs_from(words)
+}
+
+/// Returns in how many threads to search.
+fn jobs_from(words: &ArgMatches<'_>) -> Result<u32, &'static str> {
     let jobs = words.get_one::<u64>(JOBS).unwrap_or(1);
     if jobs == 0 || jobs > MOST_JOBS {
         return Err("--jobs may be 1 to 256");
     }
+    Ok(jobs as u32)
+}
+
+/// Returns the command of `explore` that counts all interleavings up to the limit, or what is wrong
+/// with its options.
+fn whole_word<'a>(asked: ExploreOptions, words: &ArgMatches<'_>) -> Result<Word<'a>, &'static str> {
     Ok(Word::Explore {
         asked,
         form: ends_form_from(words),
+        jobs: jobs_from(words)?,
         by: group_from(words)?,
-        jobs: jobs as u32,
     })
 }
 

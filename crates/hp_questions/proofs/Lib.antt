@@ -7,3 +7,4 @@ pub mod PlansKept
 pub mod PlansMet
 pub mod Played
 pub mod Reading
+pub mod SameMarks

@@ -15,7 +15,7 @@ use Rattle.hp_units.specs.declared.rows.Row.{Row}
 use Rattle.hp_schedules.specs.Outcomes.{ended_rows_below, outcome, replies_below, replies_to, told}
 use Rattle.hp_schedules.specs.declared.scripts.Step.{Step}
 use Rattle.hp_schedules.proofs.Compared.{replies_own, replies_past}
-use Rattle.hp_questions.specs.Marks.{AreMarks, HasLineSoFar, HasReplySoFar, IsLost, IsMissed, IsRuledOut, PlansGoOn, asks_no_plans, leaves_plans, line_of}
+use Rattle.hp_questions.specs.Marks.{AreMarks, HasLineSoFar, HasReplySoFar, IsLost, IsMissed, IsRuledOut, PlansGoOn, asks_no_places, asks_no_plans, leaves_places, leaves_plans, line_of}
 use Rattle.hp_questions.specs.Wanted.{HasAnswer, HasAnswerAt, HasLine, HasReply, IsMetBy, Meets}
 use Rattle.hp_questions.specs.Patterns.{IsAsWanted}
 use Rattle.hp_questions.specs.declared.wanted.EndLine.{EndLine}
@@ -25,6 +25,7 @@ use Rattle.hp_questions.specs.declared.wanted.Wanted.{Wanted}
 use Rattle.hp_questions.specs.declared.wanted.Wanted.TheVariants.{Has, Lacks}
 use Rattle.hp_questions.proofs.Places.{get_right, not_all}
 use Rattle.hp_questions.proofs.PlansKept.{plans_carried}
+use Rattle.hp_questions.proofs.SameMarks.{same_calls, same_marks}
 
 -- ---- replies
 
@@ -278,7 +279,8 @@ line_kept cpus scripts n h more l s (Block block row) has = absurd has
 -- with the same marks, lines of one end are lines of the other
 line_carried : (cpus : ℕ) (scripts : List (List Step)) (n : ℕ) (h k more : List Record) (l : LayoutParts)
     (s t : Memory) (line : EndLine)
-    → ((cpu : ℕ) → cpu < n → length (replies_to cpu h) ≡ length (replies_to cpu k))
+    → (leaves_places line ≡ false
+    → (cpu : ℕ) → cpu < n → length (replies_to cpu h) ≡ length (replies_to cpu k))
     → (leaves_plans line ≡ false → PlansGoOn cpus scripts n h k more)
     → (HasLineSoFar cpus scripts n h line → HasLineSoFar cpus scripts n k line)
     → ended_rows_below l.blocks s ≡ ended_rows_below l.blocks t
@@ -290,7 +292,7 @@ line_carried cpus scripts n h k more l s t (Answer cpu reply) as_many on so_far 
       | inr x ↦ answer_right reply n k more cpu x
     ]
 line_carried cpus scripts n h k more l s t (AnswerAt cpu earlier reply) as_many on so_far rows has =
-    at_carried reply n h k more cpu earlier (as_many cpu) so_far has
+    at_carried reply n h k more cpu earlier (as_many refl cpu) so_far has
 line_carried cpus scripts n h k more l s t (Plan cpu end) as_many on so_far rows has =
     plans_carried end cpus scripts n h k more cpu (on refl) so_far has
 line_carried cpus scripts n h k more l s t (Block block row) as_many on so_far rows has =
@@ -298,23 +300,17 @@ line_carried cpus scripts n h k more l s t (Block block row) as_many on so_far r
 
 -- ---- the same marks
 
-same_calls : (cpus : ℕ) (scripts : List (List Step)) (wanted : List Wanted) (n : ℕ) (h k : List Record)
-    (marks : List ℕ)
-    → AreMarks cpus scripts wanted n h marks → AreMarks cpus scripts wanted n k marks
-    → (cpu : ℕ) → cpu < n → length (replies_to cpu h) ≡ length (replies_to cpu k)
-same_calls cpus scripts wanted n h k marks a b cpu within =
-    same_Some (length (replies_to cpu h)) (length (replies_to cpu k))
-    (sym (a.calls cpu within) ∙ b.calls cpu within)
-
 same_met : (cpus : ℕ) (scripts : List (List Step)) (wanted : List Wanted) (n : ℕ) (h k : List Record)
     (marks : List ℕ)
     → AreMarks cpus scripts wanted n h marks → AreMarks cpus scripts wanted n k marks
     → (i : ℕ) (one : Wanted) → slice_get wanted i ≡ Some one
     → HasLineSoFar cpus scripts n h (line_of one) → HasLineSoFar cpus scripts n k (line_of one)
 same_met cpus scripts wanted n h k marks a b i one here has =
-    let x = a.met i one here in
-    let y = b.met i one here in
-    y.2.0 (same_Some y.0 x.0 (sym y.1 ∙ x.1) ∙ x.2.1 has)
+    let within = slice_get_within wanted i one here in
+    let same = (same_marks cpus scripts wanted n h k marks a b).2 in
+    let x = a.met_are.1 i one within here in
+    let y = b.met_are.1 i one within here in
+    y.2.0 (same_Some y.0 x.0 (sym y.1 ∙ (ap (λ (zs : List ℕ). slice_get zs i) (sym same) ∙ x.1)) ∙ x.2.1 has)
 
 -- further plans end alike, seen from the other
 gone_on : (cpus : ℕ) (scripts : List (List Step)) (n : ℕ) (h k more : List Record)
@@ -332,6 +328,13 @@ pub marks_meet : (cpus : ℕ) (scripts : List (List Step)) (wanted : List Wanted
 marks_meet cpus scripts wanted n h k more marks l s t a b on rows meets i one here =
     by_kind one here (meets i one here)
   where
+    if_at : (one : Wanted) → slice_get wanted i ≡ Some one → leaves_places (line_of one) ≡ false
+        → (cpu : ℕ) → cpu < n → length (replies_to cpu h) ≡ length (replies_to cpu k)
+    if_at one at about =
+        same_calls (asks_no_places wanted) n h k a.counts b.counts
+        (not_all (λ (w : Wanted). leaves_places (line_of w)) wanted i one at about)
+        (same_marks cpus scripts wanted n h k marks a b).1 a.counts_are b.counts_are
+
     if_about : (one : Wanted) → slice_get wanted i ≡ Some one → leaves_plans (line_of one) ≡ false
         → PlansGoOn cpus scripts n h k more
     if_about one at about = on (not_all (λ (w : Wanted). leaves_plans (line_of w)) wanted i one at about)
@@ -340,11 +343,11 @@ marks_meet cpus scripts wanted n h k more marks l s t a b on rows meets i one he
         → IsMetBy cpus scripts (outcome n (h ++ more) l s) one
         → IsMetBy cpus scripts (outcome n (k ++ more) l t) one
     by_kind (Has line) at has =
-        line_carried cpus scripts n h k more l s t line (same_calls cpus scripts wanted n h k marks a b)
-        (if_about (Has line) at) (same_met cpus scripts wanted n h k marks a b i (Has line) at) rows has
+        line_carried cpus scripts n h k more l s t line (if_at (Has line) at) (if_about (Has line) at)
+        (same_met cpus scripts wanted n h k marks a b i (Has line) at) rows has
     by_kind (Lacks line) at lacks =
         λ has. lacks (line_carried cpus scripts n k h more l t s line
-        (same_calls cpus scripts wanted n k h marks b a)
+        (λ about cpu within. sym (if_at (Lacks line) at about cpu within))
         (λ about. gone_on cpus scripts n h k more (if_about (Lacks line) at about))
         (same_met cpus scripts wanted n k h marks b a i (Lacks line) at) (sym rows) has)
 

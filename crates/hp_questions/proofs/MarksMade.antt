@@ -1,24 +1,23 @@
 -- The marks of records, as they are written one by one.
-use Rattle.std.proofs.Common.{◌≡◌, ℕ, ◌+◌, ◌-◌, ◌<◌, ◌≤◌, Bool, true, false, List, [], ◌∷◌, ◌++◌, length, map, Some, None, slice_get, refl, ap, sym, subst, ◌∙◌, arith, inl, inr}
+use Rattle.std.proofs.Common.{◌≡◌, ℕ, ◌+◌, ◌<◌, ◌≤◌, Bool, true, false, List, [], ◌∷◌, ◌++◌, length, map, Some, None, slice_get, refl, ap, sym, subst, ◌∙◌, arith, inl, inr}
 use mir.Val.{bool_byte}
 use Rattle.std.specs.Prelude.{◌⊎◌, ◌↔◌, IsTrue}
 use Rattle.std.specs.List.{range_with_len}
 use Rattle.std.proofs.lemmas.Bool.{cases_lt}
-use Rattle.std.proofs.lemmas.List.{append_assoc, length-append, length_push}
-use Rattle.std.proofs.lemmas.List.FromFn.{get_or-map-range_with_len, length-map-range_with_len, map-range_with_len_more}
-use Rattle.std.proofs.lemmas.Option.{none-some, same_Some, slice_get-get_or, slice_get_within}
+use Rattle.std.proofs.lemmas.List.{append_assoc, length_push}
+use Rattle.std.proofs.lemmas.List.FromFn.{map-range_with_len_more}
+use Rattle.std.proofs.lemmas.Option.{none-some, same_Some, slice_get_within}
 use Rattle.hp_laws.proofs.Lists.{get_end, get_left}
 use Rattle.hp_units.specs.declared.replies.Record.{Record}
 use Rattle.hp_units.specs.declared.replies.Reply.{Reply}
 use Rattle.hp_schedules.specs.Outcomes.{replies_below, replies_to, told}
 use Rattle.hp_schedules.specs.declared.scripts.Step.{Step}
-use Rattle.hp_questions.specs.Marks.{AreMarks, AreMet, HasLineSoFar, line_of}
+use Rattle.hp_questions.specs.Marks.{AreCountedIf, AreMarks, AreMet, HasLineSoFar, asks_no_places, line_of}
 use Rattle.hp_questions.specs.Wanted.{HasAnswerAt}
 use Rattle.hp_questions.specs.Patterns.{IsAsWanted}
 use Rattle.hp_questions.specs.declared.wanted.Pattern.{Pattern}
 use Rattle.hp_questions.specs.declared.wanted.Wanted.{Wanted}
 use Rattle.hp_questions.proofs.Marking.{below_at, below_is}
-use Rattle.hp_questions.proofs.Places.{get_right}
 
 -- ---- tests
 
@@ -103,35 +102,16 @@ met_more cpus scripts wanted processors news i one told n old mid new here so_fa
 
 -- a list that is appended to another one
 pub marks_made : (cpus : ℕ) (scripts : List (List Step)) (wanted : List Wanted) (n : ℕ)
-    (news : List Record) (old mid new met : List ℕ)
-    → mid ≡ old ++ map (λ cpu. length (replies_to cpu news)) (range_with_len 0 n) → new ≡ mid ++ met
+    (news : List Record) (old all mid new counts met : List ℕ)
+    → all ≡ old ++ length news ∷ [] → mid ≡ all ++ counts → new ≡ mid ++ met
+    → AreCountedIf (asks_no_places wanted) n news counts
     → AreMet cpus scripts wanted n news (length wanted) met
     → (marks : List ℕ) × (new ≡ old ++ marks) × AreMarks cpus scripts wanted n news marks
-marks_made cpus scripts wanted n news old mid new met calls_are is are = (
-  calls ++ met,
-  is ∙ (ap (λ (xs : List ℕ). xs ++ met) calls_are ∙ append_assoc old calls met),
-  record {
-    many = omega (arith, length-append calls met, long, are.0);
-    calls =
-        λ cpu within.
-        get_left calls met cpu (omega (arith, within, long))
-        ∙ (slice_get-get_or calls cpu 0 (omega (arith, within, long)) ∙ ap Some
-        (get_or-map-range_with_len (λ (c : ℕ). length (replies_to c news)) 0 n cpu cpu 0 within
-        (omega arith)));
-    met =
-        λ k one here. let x = are.1 k one (slice_get_within wanted k one here) here in (
-          x.0,
-          get_right calls met (n + k) (omega (arith, long))
-              ∙ (let place : n + k - length calls ≡ k = omega (arith, long) in
-              ap (slice_get met) place ∙ x.1),
-          x.2,
-          x.3,
-        );
-  },
+marks_made cpus scripts wanted n news old all mid new counts met all_is mid_is is counted are = (
+  length news ∷ (counts ++ met),
+  is
+      ∙ (ap (λ (xs : List ℕ). xs ++ met) (mid_is ∙ ap (λ (xs : List ℕ). xs ++ counts) all_is)
+      ∙ (append_assoc (old ++ length news ∷ []) counts met
+      ∙ append_assoc old (length news ∷ []) (counts ++ met))),
+  record { counts = counts; met = met; parts = refl; counts_are = counted; met_are = are },
 )
-  where
-    calls : List ℕ
-    calls = map (λ cpu. length (replies_to cpu news)) (range_with_len 0 n)
-
-    long : length calls ≡ n
-    long = length-map-range_with_len (λ (c : ℕ). length (replies_to c news)) 0 n

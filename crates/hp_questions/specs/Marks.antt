@@ -1,7 +1,7 @@
 -- The wanted lines that the records have so far, as numbers, and when no later end can meet all of
 -- them.
-use Rattle.std.specs.Prelude.{◌≡◌, ◌⊎◌, ◌↔◌, ℕ, ◌+◌, ◌<◌, Bool, true, false, List, ◌++◌, Some, length, slice_get}
-use Rattle.std.specs.List.{list_all}
+use Rattle.std.specs.Prelude.{◌≡◌, ◌⊎◌, ◌↔◌, ℕ, ◌<◌, Bool, true, false, List, [], ◌∷◌, ◌++◌, Some, length, map, slice_get}
+use Rattle.std.specs.List.{list_all, range_with_len}
 use Rattle.hp_units.specs.LayoutParts.{LayoutParts}
 use Rattle.hp_units.specs.Memory.{Memory}
 use Rattle.hp_units.specs.declared.replies.Record.{Record}
@@ -32,6 +32,15 @@ leaves_plans line = true
 abbrev pub asks_no_plans : List Wanted → Bool
 asks_no_plans wanted = list_all (λ one. leaves_plans (line_of one)) wanted
 
+-- the line is not about the place of a reply among those to its processor
+abbrev pub leaves_places : EndLine → Bool
+leaves_places (AnswerAt cpu earlier reply) = false
+leaves_places line = true
+
+-- no wanted line is about the place of a reply
+abbrev pub asks_no_places : List Wanted → Bool
+asks_no_places wanted = list_all (λ one. leaves_places (line_of one)) wanted
+
 -- a reply so far matches the line, so that every later end has the line. No reply matches a line about a
 -- plan or a memory block
 abbrev pub HasReplySoFar : (processors : ℕ) → List Record → EndLine → Type 0
@@ -58,16 +67,22 @@ AreMet cpus scripts wanted processors news lines met =
     → (n : ℕ) × (slice_get met k ≡ Some n)
     × ((n ≡ 1) ↔ HasLineSoFar cpus scripts processors news (line_of one)) × ((n ≡ 0) ⊎ (n ≡ 1)))
 
--- the marks of the place in a search to which the records lead: each processor's number of replies,
--- and then, for each wanted line, 1 if the records have the line so far, else 0. This is also so for a
--- line that an end is to lack
+-- each processor's number of replies; nothing if no wanted line is about the place of a reply
+abbrev pub AreCountedIf : (none : Bool) → (processors : ℕ) → List Record → List ℕ → Type 0
+AreCountedIf true processors news counts = counts ≡ []
+AreCountedIf false processors news counts =
+    counts ≡ map (λ cpu. length (replies_to cpu news)) (range_with_len 0 processors)
+
+-- the marks of the place in a search to which the records lead: how many records there are, each
+-- processor's number of replies if a wanted line is about the place of one, and then, for each wanted
+-- line, 1 if the records have the line so far, else 0. This is also so for a line that an end is to lack
 pub record AreMarks (cpus : ℕ) (scripts : List (List Step)) (wanted : List Wanted) (processors : ℕ)
     (news : List Record) (marks : List ℕ) : Type 0 where
-  pub many : length marks ≡ processors + length wanted
-  pub calls : (cpu : ℕ) → cpu < processors → slice_get marks cpu ≡ Some (length (replies_to cpu news))
-  pub met : (k : ℕ) (one : Wanted) → slice_get wanted k ≡ Some one
-      → (n : ℕ) × (slice_get marks (processors + k) ≡ Some n)
-      × ((n ≡ 1) ↔ HasLineSoFar cpus scripts processors news (line_of one)) × ((n ≡ 0) ⊎ (n ≡ 1))
+  pub counts : List ℕ
+  pub met : List ℕ
+  pub parts : marks ≡ length news ∷ (counts ++ met)
+  pub counts_are : AreCountedIf (asks_no_places wanted) processors news counts
+  pub met_are : AreMet cpus scripts wanted processors news (length wanted) met
 
 -- for each script, the records `more` add the same ends of plans after `first` and after `second`
 abbrev pub PlansGoOn : (cpus : ℕ) → (scripts : List (List Step)) → (processors : ℕ)

@@ -3,7 +3,7 @@ ghost use Rattle.std.specs.Prelude.{◌≡◌, ◌↔◌, ◌++◌, ℕ, List, I
 ghost use Rattle.std.specs.List.{range_with_len};
 ghost use Rattle.hp_schedules.specs.declared.scripts.Step.{Step};
 ghost use Rattle.hp_schedules.specs.Outcomes.{replies_below, replies_to, told};
-ghost use Rattle.hp_questions.specs.Marks.{AreMarks, AreMet, HasLineSoFar, HasReplySoFar, IsLost, IsMissed, IsRuledOut, asks_no_plans, leaves_plans, line_of};
+ghost use Rattle.hp_questions.specs.Marks.{AreCountedIf, AreMarks, AreMet, HasLineSoFar, HasReplySoFar, IsLost, IsMissed, IsRuledOut, asks_no_places, asks_no_plans, leaves_places, leaves_plans, line_of};
 ghost use Rattle.hp_questions.specs.Wanted.{HasAnswer, HasAnswerAt, HasReply};
 
 use crate::wanted::{EndLine, Pattern, Wanted};
@@ -11,11 +11,12 @@ use hp_schedules::{CallScript, all_answers};
 use hp_units::{Cpu, Record, Reply, Serial};
 use std::alloc::{AllocError, Global};
 
-/// Appends the marks of the place in a search to which these records lead. For each processor below
-/// `processors`, the mark is its number of replies. For each wanted line, it is 1 if the records
-/// have the line so far, else 0; this is also so for a line that an end must not have. A line about
-/// a memory block always gets 0. Returns whether each number of replies fits 32 bits. If not,
-/// `numbers` gets only some of the marks.
+/// Appends the marks of the place in a search to which these records lead. The first mark is the
+/// number of records. If a wanted line is about the place of a reply (`EndLine::AnswerAt`), the
+/// number of replies to each processor below `processors` follows. For each wanted line, the mark is
+/// 1 if the records have the line so far, else 0; this is also so for a line that an end must not
+/// have. A line about a memory block always gets 0. Returns whether each number fits 32 bits. If
+/// not, `numbers` gets only some of the marks.
 ///
 /// Suppose that two places have the same marks. If the same further calls get the same replies
 /// after both, further plans end alike, and the rows at the end are equal, then both ends meet the
@@ -34,11 +35,27 @@ pub fn push_marks(
         × (numbers.new.items ≡ numbers.old.items ++ marks)
         × AreMarks cpus scripts.now wanted.now processors records.now marks) }
 {
-    if !push_calls(processors, records, numbers)? {
+    let Ok(calls) = u32::try_from(records.len()) else {
+        return Ok(false);
+    };
+    numbers.push(calls)?;
+    if !push_calls_if(wanted, processors, records, numbers)? {
         return Ok(false);
     }
     push_met(alloc, wanted, cpus, scripts, processors, records, numbers)?;
     Ok(true)
+}
+
+/// Returns whether no wanted line is about the place of a reply among those to its processor.
+fn asks_no_places(wanted: &[Wanted]) -> bool
+    ensures { result ≡ asks_no_places wanted.now }
+{
+    for one in wanted {
+        if !leaves_places(line_of(one)) {
+            return false;
+        }
+    }
+    true
 }
 
 /// Returns whether no wanted line is about plans.
@@ -66,6 +83,24 @@ pub fn is_lost(wanted: &[Wanted], processors: u32, records: &[Record]) -> bool
         }
     }
     false
+}
+
+/// If a wanted line is about the place of a reply, appends how many replies each processor got.
+/// Returns whether each number fits 32 bits.
+fn push_calls_if(
+    wanted: &[Wanted],
+    processors: u32,
+    records: &[Record],
+    numbers: &mut Vec<u32>,
+) -> Result<bool, AllocError>
+    ensures { IfOk result (λ fit. fit ≡ true → (counts : List ℕ)
+        × (numbers.new.items ≡ numbers.old.items ++ counts)
+        × AreCountedIf (asks_no_places wanted.now) processors records.now counts) }
+{
+    if asks_no_places(wanted) {
+        return Ok(true);
+    }
+    push_calls(processors, records, numbers)
 }
 
 /// Appends how many replies each processor got. Returns whether each number fits 32 bits.
@@ -143,6 +178,13 @@ fn is_missed(line: &EndLine, records: &[Record]) -> bool
         },
         _ => false,
     }
+}
+
+/// Returns whether the line is not about the place of a reply.
+fn leaves_places(line: &EndLine) -> bool
+    ensures { result ≡ leaves_places line.now }
+{
+    !matches!(line, EndLine::AnswerAt { .. })
 }
 
 /// Returns whether the line is not about plans.

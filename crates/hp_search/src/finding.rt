@@ -15,29 +15,34 @@ use hp_explore::{ExploreFault, FindFault, Found, Watch, changes_of, find};
 use hp_questions::{Wanted, first_past};
 use hp_units::{Cpu, Record};
 use std::alloc::{AllocError, Global};
+use std::sync::Wait;
+use std::thread::Threads;
 
 /// Searches the scenario in `input` for an interleaving whose end meets each of the wanted lines,
 /// with the fewest changes of processor. The first `setup` lines are run in order, and each later
 /// line goes to the script of its processor. There, operation 0 is the one that the processor began
-/// last.
+/// last. The search runs in `jobs` threads, at most 256.
 ///
 /// If an interleaving ends as wanted, the text has the first one with the fewest changes: its
 /// number of changes and its calls, as words or as an object; or the interleaving as a scenario. If
 /// there is none, the text reports that. If `watch` ended the search, it reports that nothing is
 /// known. As a scenario the text is empty in these two cases.
 ///
-/// `watch` gets the number of states that the search has reached.
+/// `watch` gets the number of states that the search has reached, but not while several threads
+/// search.
 ///
 /// Errors: those of reading the scenario; `NotForScript` with the first line after the setup that
 /// may not be in a script; `PastLayout` with the first wanted line that names something past the
 /// layout; `HistoryFull` if the history has no room for a call that the search makes, as for `find`
 /// of hp_explore; `OutOfMemory`, which may come in place of any other result.
 pub fn find_text<W: Watch>(
+    rt: &(impl Threads + Wait + Sync),
     alloc: Global,
     input: &[u8],
     setup: u64,
     wanted: &[Wanted],
     form: ScheduleForm,
+    jobs: u32,
     watch: &mut W,
 ) -> Result<FindText, LabFault>
     ensures ok { IfOk result (λ f.
@@ -49,18 +54,20 @@ pub fn find_text<W: Watch>(
     if let Some(number) = first_past(wanted, prepared.start.machine.layout()) {
         return Err(LabFault::PastLayout { number });
     }
-    match found(alloc, &prepared, wanted, form, watch) {
+    match found(rt, alloc, &prepared, wanted, form, jobs, watch) {
         Ok(finding) => Ok(finding),
         Err(fault) => Err(prepared.told_fault(alloc, fault)),
     }
 }
 
-/// Searches a prepared scenario and returns the result as text in `form`.
+/// Searches a prepared scenario in `jobs` threads and returns the result as text in `form`.
 fn found<W: Watch>(
+    rt: &(impl Threads + Wait + Sync),
     alloc: Global,
     prepared: &Prepared,
     wanted: &[Wanted],
     form: ScheduleForm,
+    jobs: u32,
     watch: &mut W,
 ) -> Result<FindText, ExploreFault>
     requires few { length prepared.now.start.scripts.items < 2 ^ 32 }
@@ -73,7 +80,7 @@ fn found<W: Watch>(
 {
     let machine = &prepared.start.machine;
     let scripts = prepared.start.scripts.as_slice();
-    match find(alloc, machine, scripts, wanted, watch) {
+    match find(rt, alloc, machine, scripts, wanted, jobs, watch) {
         Ok(found) => {
             let finding = found_told(alloc, prepared, &found, form)?;
             Ok(finding)

@@ -1,4 +1,4 @@
--- A row that is read from its buffer.
+-- A row or a text that is read from its buffer.
 use Rattle.std.proofs.Common.{◌≡◌, ◌⊎◌, inl, inr, ℕ, ◌<◌, ◌≤◌, List, length, get_or, Option, None, Some, slice_get, ap, sym, subst, ◌∙◌, arith}
 use Rattle.std.specs.List.{PartBy, slice_range}
 use Rattle.std.specs.Option.{IfNone, IfSome}
@@ -22,14 +22,14 @@ row_shown {X} now (Some row) rows place start all numbers ends shown rows_are al
     ∙ ap (λ (n : ℕ). slice_range numbers n (get_or shown place 0)) start_is)))
 
 -- and there is such a part
-pub row_there : {X R : Type 0} (now : R → List X) (o : Option R) (rows : List (List X)) (place start : ℕ)
+pub row_there : {X R : Type 0} (now : R → List X) (o : Option R) (count place start : ℕ)
     (all numbers : List X) (ends shown : List ℕ)
     → AreTextsFrom (length all) 0 ends → numbers ≡ all → shown ≡ ends → place < length shown
     → start ≡ start_of 0 shown place → PartBy now numbers start (get_or shown place 0) o
-    → IfNone o (length rows ≤ place)
-row_there now (Some row) rows place start all numbers ends shown are all_is ends_are within start_is part =
+    → IfNone o (count ≤ place)
+row_there now (Some row) count place start all numbers ends shown are all_is ends_are within start_is part =
     tt
-row_there now None rows place start all numbers ends shown are all_is ends_are within start_is part =
+row_there now None count place start all numbers ends shown are all_is ends_are within start_is part =
     absurd (outside part.0)
   where
     lies : LiesWithin (length numbers) start (get_or shown place 0)

@@ -1,5 +1,5 @@
--- Texts, keys or rows that stand in one buffer, one after another.
-use Rattle.std.proofs.Common.{ℕ, zero, suc, ◌≡◌, ◌+◌, ◌-◌, ◌<◌, ◌≤◌, List, [], ◌∷◌, ◌++◌, Some, length, get_or, take, drop, refl, sym, ◌∙◌, ap, subst, arith, slice_get}
+-- Texts or rows that stand in one buffer, one after another.
+use Rattle.std.proofs.Common.{ℕ, zero, suc, ◌≡◌, ◌+◌, ◌-◌, ◌<◌, ◌≤◌, List, [], ◌∷◌, ◌++◌, OnErr, OnOk, IfOk, Result, Ok, Err, Some, length, get_or, take, drop, refl, sym, ◌∙◌, ap, subst, arith, slice_get}
 use Rattle.std.specs.Prelude.{slice_range}
 use Rattle.std.proofs.lemmas.List.{drop-append-le, drop_at, length-append, length-drop, take-append-le, take_all}
 use Rattle.std.proofs.lemmas.Option.{slice_get_within}
@@ -92,6 +92,20 @@ keep_more texts more n c is = get_left texts (more ∷ []) n (slice_get_within t
 pub number_more : {X : Type 0} (texts : List (List X)) (more : List X) (n : ℕ) → n ≡ length texts
     → slice_get (texts ++ more ∷ []) n ≡ Some more
 number_more texts more n is = ap (slice_get (texts ++ more ∷ [])) is ∙ get_end texts more
+
+-- both of them for an addition that may be out of memory, and then changes nothing
+pub keep_added : {E : Type 0} (r : Result ℕ E) (old new : List (List ℕ)) (text : List ℕ)
+    → OnOk r (new ≡ old ++ text ∷ []) → OnErr r (new ≡ old) → KeepCodes old new
+keep_added (Ok n) old new text more same = subst (KeepCodes old) (sym more) (keep_more old text)
+keep_added (Err e) old new text more same =
+    λ n c is. ap (λ (texts : List (List ℕ)). slice_get texts n) same ∙ is
+
+pub number_added : {E : Type 0} (r : Result ℕ E) (old new : List (List ℕ)) (text : List ℕ)
+    → OnOk r (new ≡ old ++ text ∷ []) → IfOk r (λ n. n ≡ length old)
+    → IfOk r (λ n. slice_get new n ≡ Some text)
+number_added (Ok n) old new text more at =
+    ap (λ (texts : List (List ℕ)). slice_get texts n) more ∙ number_more old text n at
+number_added (Err e) old new text more at = tt
 
 -- both of a buffer and its ends, after a text more
 pub texts_on : {X : Type 0} (bytes more bytes' : List X) (ends ends' : List ℕ) (at : ℕ)

@@ -13,13 +13,13 @@ use Rattle.hp_schedules.specs.Schedules.{Setting, plays, schedule_of}
 use Rattle.hp_states.specs.Frames.{counts_of}
 use Rattle.hp_states.specs.Seen.{AreSamePlaces, Grow, IsMemo, IsOnWay, IsRow, IsRowAmong, IsSeen, MemoValue, SeenValue}
 use Rattle.hp_schedules.specs.Shares.{AddsCounts, AddsShares, AreAtEnds, AreSince, amount_of}
-use Rattle.hp_states.specs.Standing.{AreSameNumbers, IsKey, IsStanding, KeepMeanings, StandingValue}
+use Rattle.hp_states.specs.Standing.{AreSameNumbers, IsKeyCode, IsStanding, KeepMeanings, StandingValue}
 use Rattle.hp_states.specs.Walks.{BeforeInPart, HasRoomFrom, IsAt, IsPartWalkedBefore, IsPartWalkedThrough, ThroughInPart}
 use Rattle.hp_schedules.specs.declared.trail.Share.{Share}
 use Rattle.hp_schedules.specs.declared.tally.Ending.{Ending}
 use Rattle.hp_states.proofs.Counts.{count_past, count_read}
 use Rattle.hp_states.proofs.Grown.{grow_added, seen_grows}
-use Rattle.hp_states.proofs.Keys.{key_kept, keys_alike}
+use Rattle.hp_states.proofs.Keys.{code_kept, codes_alike}
 use Rattle.hp_states.proofs.Merges.{merged, walked_seen}
 use Rattle.hp_states.proofs.Rooms.{ordered_added, room_alike}
 use Rattle.hp_schedules.proofs.Shares.{adds_told, at_ends_more, counts_in, counts_long, counts_tell}
@@ -82,7 +82,7 @@ pub row_kept : (g : Setting) (part : PartValue) (p : StepsValue) (s : StandingVa
     (earlier key : List ℕ) (shares : List Share)
     → AllOfPart (length g.scripts) part (schedule_of p.records) → IsAt g p → earlier ≡ counts_of old
     → AreSince earlier new shares → Grow old new → CountsBefore g part p old
-    → IsPartWalkedThrough g part (schedule_of p.records) new → IsKey g s p.records key
+    → IsPartWalkedThrough g part (schedule_of p.records) new → IsKeyCode g s p.records key
     → IsRow g new s key shares
 row_kept g part p s old new earlier key shares within here is since grow before through key_is = record {
   seen = seen;
@@ -133,7 +133,7 @@ row_extended g ends old new key shares keep is = record {
   seen = is.seen;
   told = is.told;
   at_ends = is.at_ends;
-  key_is = key_kept g old new is.seen.news key keep is.key_is;
+  key_is = code_kept g old new is.seen.news key keep is.key_is;
   seen_is = is.seen_is;
   room = is.room;
 }
@@ -153,7 +153,7 @@ memo_extended g ends old new same keep kept = record {
   mergeable = λ set. kept.mergeable (sym same.0 ∙ set);
 }
 
--- the same where only the key that was written last may be another
+-- the same where only the code of the key that was written last may be another
 pub memo_written : (g : Setting) (ends : List Ending) (old new : MemoValue)
     → AreSamePlaces old new × (new.standing ≡ old.standing) → IsMemo g ends old → IsMemo g ends new
 memo_written g ends old new same kept =
@@ -211,13 +211,13 @@ memo_stands g news parts memo is way set =
 
 -- ---- one that is found again
 
--- a place with the key that was written last is kept, with these shares
+-- a place with the code of the key that was written last is kept, with these shares
 pub record IsFound (g : Setting) (p : StepsValue) (memo : MemoValue) (ends : List Ending)
     (shares : List Share) : Type 0 where
   pub here : IsAt g p
   pub kept : IsMemo g ends memo
   pub on : memo.is_on ≡ true
-  pub key_is : IsKey g memo.standing p.records memo.key
+  pub key_is : IsKeyCode g memo.standing p.records memo.key
   pub among : IsRowAmong memo.keys memo.rows memo.key shares
 
 -- as it was looked for
@@ -247,7 +247,7 @@ found_like g p memo ends shares found = record {
   told = row.told;
   at_ends = row.at_ends;
   alike =
-      keys_alike g memo.standing row.seen.news p.records memo.key row.seen_is.played found.here.played
+      codes_alike g memo.standing row.seen.news p.records memo.key row.seen_is.played found.here.played
       row.key_is found.key_is;
 }
   where

@@ -1,8 +1,9 @@
 -- Keys of places: how they are made, and that what goes on from places with one key goes on alike.
 use Rattle.std.proofs.Common.{◌≡◌, ℕ, zero, suc, ◌+◌, ◌*◌, ◌<◌, ◌≤◌, List, [], ◌∷◌, ◌++◌, length, Option, Some, None, slice_get, refl, ap, sym, subst, ◌∙◌, arith, inl, inr}
+use Rattle.std.specs.List.{flat_map}
 use Rattle.std.specs.Prelude.{◌⊎◌, fold}
 use Rattle.std.proofs.lemmas.Bool.{cases_lt}
-use Rattle.std.proofs.lemmas.List.{append_assoc, length-append, length_push}
+use Rattle.std.proofs.lemmas.List.{append-nil, append_assoc, flat_map_more, length-append, length_push}
 use Rattle.std.proofs.lemmas.Option.{none-some, same_Some, slice_get_within}
 use Rattle.hp_laws.proofs.Lists.{get_end, get_left}
 use Rattle.hp_units.specs.Receipts.{receipts_of}
@@ -13,8 +14,10 @@ use Rattle.hp_schedules.specs.Alike.{AreAlike, exchanges}
 use Rattle.hp_states.specs.Exchanges.{IsExchanged, exchange_in}
 use Rattle.hp_schedules.specs.Schedules.{Setting, next_call, play_one, plays, record_of_call, schedule_of}
 use Rattle.hp_schedules.specs.Scripts.{own_operation}
-use Rattle.hp_states.specs.Standing.{AddsParts, IsBegunKey, IsKey, IsPart, KeepMeanings, StandingValue, plainly}
+use Rattle.hp_states.specs.Numbers.{number_code}
+use Rattle.hp_states.specs.Standing.{AddsParts, IsBegunCode, IsBegunKey, IsKey, IsKeyCode, IsPart, KeepMeanings, StandingValue, plainly}
 use Rattle.hp_states.specs.Stops.{AreNumbersAt, IsNumbering}
+use Rattle.hp_states.proofs.Apart.{counted-apart}
 use Rattle.hp_states.proofs.Exchanged.{exchanges_other, exchanges_own}
 use Rattle.hp_states.proofs.StopNumbers.{joined_equal, numbers_join, numbers_kept}
 use Rattle.hp_renumbering.proofs.Numbered.{differ}
@@ -28,7 +31,7 @@ plain_numbering = record { differ = λ news. differ 0 []; steady = λ news r goe
 
 -- ---- as more numbers come
 
-pub key_kept : (g : Setting) (old new : StandingValue) (news : List Record) (key : List ℕ)
+key_kept : (g : Setting) (old new : StandingValue) (news : List Record) (key : List ℕ)
     → KeepMeanings old new → IsKey g old news key → IsKey g new news key
 key_kept g old new news key keep is = record {
   state = is.state;
@@ -47,9 +50,17 @@ key_kept g old new news key keep is = record {
   long = is.long;
 }
 
+pub code_kept : (g : Setting) (old new : StandingValue) (news : List Record) (code : List ℕ)
+    → KeepMeanings old new → IsKeyCode g old news code → IsKeyCode g new news code
+code_kept g old new news code keep is = record {
+  key = is.key;
+  code_is = is.code_is;
+  key_is = key_kept g old new news is.key keep is.key_is;
+}
+
 -- ---- a key that is made
 
-pub key_begun : (s : StandingValue) (news : List Record) (state openings : ℕ) (old key : List ℕ)
+key_begun : (s : StandingValue) (news : List Record) (state openings : ℕ) (old key : List ℕ)
     → old ≡ [] → key ≡ old ++ state ∷ openings ∷ [] → IsBegunKey s news state openings 0 key
 key_begun s news state openings old key none is =
     subst (IsBegunKey s news state openings 0)
@@ -91,7 +102,7 @@ part_left s cpu news key more part = record {
       ∙ part.second;
 }
 
-pub key_more : (s : StandingValue) (news : List Record) (state openings cpu number op : ℕ)
+key_more : (s : StandingValue) (news : List Record) (state openings cpu number op : ℕ)
     (old key : List ℕ)
     → IsBegunKey s news state openings cpu old → key ≡ old ++ number ∷ op ∷ []
     → IsExchanged s.exchanged.chains cpu news number → op ≡ own_operation (receipts_of cpu news)
@@ -125,7 +136,7 @@ key_more s news state openings cpu number op old key begun is exchanged own =
         let same : cpu ≡ c = omega (arith, less, past) in
         subst (λ (n : ℕ). IsPart s n news (old ++ number ∷ op ∷ [])) same last
 
-pub key_whole : (g : Setting) (s : StandingValue) (news : List Record) (state openings cpus : ℕ)
+key_whole : (g : Setting) (s : StandingValue) (news : List Record) (state openings cpus : ℕ)
     (key : List ℕ)
     → cpus ≡ length g.scripts → AreNumbersAt (plainly news) g news s.stops state openings
     → IsBegunKey s news state openings cpus key → IsKey g s news key
@@ -139,14 +150,75 @@ key_whole g s news state openings cpus key many are begun = record {
   long = omega (arith, begun.long, many);
 }
 
+-- ---- its code
+
+two_more : (count : ℕ) (key : List ℕ) (first second : ℕ) (old new : List ℕ)
+    → old ≡ number_code count ++ flat_map number_code key
+    → new ≡ old ++ number_code first ++ number_code second
+    → new ≡ number_code count ++ flat_map number_code (key ++ first ∷ second ∷ [])
+two_more count key first second old new was is =
+    is
+    ∙ (ap (λ (code : List ℕ). code ++ number_code first ++ number_code second) was
+    ∙ (ap (λ (code : List ℕ). code ++ number_code second)
+    (flat_map_more number_code (number_code count) key first)
+    ∙ (flat_map_more number_code (number_code count) (key ++ first ∷ []) second
+    ∙ ap (λ (ks : List ℕ). number_code count ++ flat_map number_code ks)
+    (append_assoc key (first ∷ []) (second ∷ [])))))
+
+code_begun : (s : StandingValue) (news : List Record) (count state openings : ℕ)
+    (none first code : List ℕ)
+    → none ≡ [] → first ≡ none ++ number_code count
+    → code ≡ first ++ number_code state ++ number_code openings
+    → IsBegunCode s news count state openings 0 code
+code_begun s news count state openings none first code bare begins is = record {
+  key = state ∷ openings ∷ [];
+  code_is =
+      two_more count [] state openings first code
+      (begins ∙ (ap (λ (start : List ℕ). start ++ number_code count) bare
+      ∙ sym (append-nil (number_code count)))) is;
+  begun = key_begun s news state openings [] (state ∷ openings ∷ []) refl refl;
+}
+
+pub code_more : (s : StandingValue) (news : List Record) (count state openings cpu number op : ℕ)
+    (old half code : List ℕ)
+    → IsBegunCode s news count state openings cpu old → half ≡ old ++ number_code number
+    → code ≡ half ++ number_code op
+    → IsExchanged s.exchanged.chains cpu news number → op ≡ own_operation (receipts_of cpu news)
+    → IsBegunCode s news count state openings (cpu + 1) code
+code_more s news count state openings cpu number op old half code was first is exchanged own = record {
+  key = was.key ++ number ∷ op ∷ [];
+  code_is =
+      two_more count was.key number op old code was.code_is
+      (is ∙ ap (λ (start : List ℕ). start ++ number_code op) first);
+  begun =
+      key_more s news state openings cpu number op was.key (was.key ++ number ∷ op ∷ []) was.begun refl
+      exchanged own;
+}
+
+code_whole : (g : Setting) (s : StandingValue) (news : List Record) (count state openings cpus : ℕ)
+    (code : List ℕ)
+    → cpus ≡ length g.scripts → count ≡ 2 * cpus + 2
+    → AreNumbersAt (plainly news) g news s.stops state openings
+    → IsBegunCode s news count state openings cpus code → IsKeyCode g s news code
+code_whole g s news count state openings cpus code many counted are is = record {
+  key = is.key;
+  code_is =
+      is.code_is
+      ∙ ap (λ (n : ℕ). number_code n ++ flat_map number_code is.key) (counted ∙ sym is.begun.long);
+  key_is = key_whole g s news state openings cpus is.key many are is.begun;
+}
+
 -- begun with the numbers of where a walk stands
-pub key_made : (g : Setting) (s : StandingValue) (news : List Record) (state openings cpus : ℕ)
-    (old first key : List ℕ)
-    → cpus ≡ length g.scripts → AreNumbersAt (plainly news) g news s.stops state openings
-    → old ≡ [] → first ≡ old ++ state ∷ openings ∷ [] → AddsParts s news cpus first key → IsKey g s news key
-key_made g s news state openings cpus old first key many are none is more =
-    key_whole g s news state openings cpus key many are
-    (more state openings (key_begun s news state openings old first none is))
+pub code_made : (g : Setting) (s : StandingValue) (news : List Record) (count state openings cpus : ℕ)
+    (none first second code : List ℕ)
+    → cpus ≡ length g.scripts → count ≡ 2 * cpus + 2
+    → AreNumbersAt (plainly news) g news s.stops state openings
+    → none ≡ [] → first ≡ none ++ number_code count
+    → second ≡ first ++ number_code state ++ number_code openings
+    → AddsParts s news cpus second code → IsKeyCode g s news code
+code_made g s news count state openings cpus none first second code many counted are bare begins is more =
+    code_whole g s news count state openings cpus code many counted are
+    (more count state openings (code_begun s news count state openings none first second bare begins is))
 
 -- ---- how many calls there were follows from the exchanges
 
@@ -268,7 +340,7 @@ exchanged_same s cpu h k key a b =
     (sym a.exchanged
     ∙ (ap (slice_get s.exchanged.chains) (same_Some a.number b.number (sym a.first ∙ b.first)) ∙ b.exchanged))
 
-pub keys_alike : (g : Setting) (s : StandingValue) (h k : List Record) (key : List ℕ)
+keys_alike : (g : Setting) (s : StandingValue) (h k : List Record) (key : List ℕ)
     → plays g (schedule_of h) ≡ Some h → plays g (schedule_of k) ≡ Some k
     → IsKey g s h key → IsKey g s k key → AreAlike g h k
 keys_alike g s h k key first second a b = record {
@@ -291,3 +363,14 @@ keys_alike g s h k key first second a b = record {
         (same_Some a.openings b.openings (sym a.openings_next ∙ b.openings_next))
         (subst (λ (n : ℕ). AreNumbersAt (plainly h) g h s.stops n a.openings)
         (same_Some a.state b.state (sym a.state_first ∙ b.state_first)) a.numbers_are)
+
+pub codes_alike : (g : Setting) (s : StandingValue) (h k : List Record) (code : List ℕ)
+    → plays g (schedule_of h) ≡ Some h → plays g (schedule_of k) ≡ Some k
+    → IsKeyCode g s h code → IsKeyCode g s k code → AreAlike g h k
+codes_alike g s h k code first second a b =
+    keys_alike g s h k b.key first second (subst (IsKey g s h) same a.key_is) b.key_is
+  where
+    same : a.key ≡ b.key
+    same =
+        (counted-apart a.key b.key [] []
+        (ap (λ (bytes : List ℕ). bytes ++ []) (sym a.code_is ∙ b.code_is))).0

@@ -19,9 +19,13 @@ state_code l m =
 abbrev pub place_code : LayoutParts → (numbers : List ℕ) → Memory → List ℕ
 place_code l numbers m = counted_code numbers ++ state_code l m
 
+-- the text is among the texts
+abbrev pub IsAmong : (texts : List (List ℕ)) → (text : List ℕ) → Type 0
+IsAmong texts text = (at : ℕ) × (slice_get texts at ≡ Some text)
+
 -- if the text is found, the table has it and stays as it is; if not, the table gets it
 abbrev pub IsFoundOrAdded : (old new : List (List ℕ)) → (text : List ℕ) → (found : Bool) → Type 0
-IsFoundOrAdded old new text true = (new ≡ old) × ((at : ℕ) × (slice_get old at ≡ Some text))
+IsFoundOrAdded old new text true = (new ≡ old) × IsAmong old text
 IsFoundOrAdded old new text false = new ≡ old ++ text ∷ []
 
 -- each number in use keeps its code

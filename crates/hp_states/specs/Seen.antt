@@ -6,7 +6,7 @@ use Rattle.hp_schedules.specs.Notes.{HasNoEnd}
 use Rattle.hp_schedules.specs.Orders.{Extends, HasCount}
 use Rattle.hp_schedules.specs.Outcomes.{OutcomeValue}
 use Rattle.hp_schedules.specs.Schedules.{EndsWith, Setting, plays, schedule_of}
-use Rattle.hp_states.specs.Standing.{IsKey, IsStanding, StandingValue}
+use Rattle.hp_states.specs.Standing.{IsKeyCode, IsStanding, StandingValue}
 use Rattle.hp_states.specs.Walks.{HasRoomFrom}
 use Rattle.hp_schedules.specs.declared.trail.Share.{Share}
 use Rattle.hp_schedules.specs.declared.tally.Ending.{Ending}
@@ -40,8 +40,8 @@ pub record Grow (old new : List Ending) : Type 0 where
 
 -- ---- the places that are kept
 
--- the places that a walk keeps, if it keeps any, by their keys and rows; the key written last; and the
--- numbers of the walk's own place
+-- the places that a walk keeps, if it keeps any, by the codes of their keys and by their rows; the code
+-- of the key written last; and the numbers of the walk's own place
 pub record MemoValue : Type 0 where
   pub is_on : Bool
   pub keys : List (List ℕ)
@@ -49,18 +49,18 @@ pub record MemoValue : Type 0 where
   pub key : List ℕ
   pub standing : StandingValue
 
--- `key` is the key of a place, and `shares` have the number of schedules that continue from it to
--- each of these ends. The history has room for all calls from the place on
+-- `key` is the code of a place's key, and `shares` have the number of schedules that continue from the
+-- place to each of these ends. The history has room for all calls from the place on
 pub record IsRow (g : Setting) (ends : List Ending) (s : StandingValue) (key : List ℕ)
     (shares : List Share) : Type 0 where
   pub seen : SeenValue
   pub told : (k : ℕ) → amount_of shares k ≡ slice_index_or seen.counts k 0
   pub at_ends : AreAtEnds (length ends) shares
-  pub key_is : IsKey g s seen.news key
+  pub key_is : IsKeyCode g s seen.news key
   pub seen_is : IsSeen g ends seen
   pub room : HasRoomFrom g (schedule_of seen.news)
 
--- a place with this key is kept, with these shares
+-- a place whose key has this code is kept, with these shares
 abbrev pub IsRowAmong : (keys : List (List ℕ)) → (rows : List (List Share)) → (key : List ℕ)
     → (shares : List Share) → Type 0
 IsRowAmong keys rows key shares =
@@ -77,7 +77,7 @@ pub record IsMemo (g : Setting) (ends : List Ending) (memo : MemoValue) : Type 0
 abbrev pub AreSamePlaces : MemoValue → MemoValue → Type 0
 AreSamePlaces old new = (new.is_on ≡ old.is_on) × (new.keys ≡ old.keys) × (new.rows ≡ old.rows)
 
--- one more place is kept, under the key written last, with these shares
+-- one more place is kept, under the code of the key written last, with these shares
 abbrev pub IsKeptMore : List Share → (old new : MemoValue) → Type 0
 IsKeptMore shares old new =
     new ≡ record old { keys = old.keys ++ old.key ∷ []; rows = old.rows ++ shares ∷ [] }

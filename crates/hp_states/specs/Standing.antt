@@ -1,10 +1,13 @@
 -- The numbers that describe a walk's place.
-use Rattle.std.specs.Prelude.{◌≡◌, ℕ, ◌+◌, ◌*◌, ◌<◌, List, [], Some, length, slice_get}
+use Rattle.std.specs.Prelude.{◌≡◌, ℕ, ◌+◌, ◌*◌, ◌<◌, List, [], ◌++◌, Some, length, slice_get}
+use Rattle.std.specs.List.{flat_map}
 use Rattle.hp_units.specs.Receipts.{receipts_of}
 use Rattle.hp_units.specs.declared.replies.Record.{Record}
 use Rattle.hp_renumbering.specs.Numberings.{number_of}
 use Rattle.hp_states.specs.Exchanges.{AreExchanged, ExchangesValue, IsExchanged}
 use Rattle.hp_states.specs.Interned.{KeepNumbers}
+use Rattle.hp_states.specs.Numbers.{number_code}
+use Rattle.hp_states.specs.Parts.{counted_code}
 use Rattle.hp_schedules.specs.Schedules.{Setting}
 use Rattle.hp_schedules.specs.Scripts.{own_operation}
 use Rattle.hp_states.specs.Stops.{AreNumbersAt, AreSameStops, AreStopsAt, KeepStops, StopsValue}
@@ -51,10 +54,18 @@ pub record IsBegunKey (s : StandingValue) (news : List Record) (state openings c
   pub openings_next : slice_get key 1 ≡ Some openings
   pub parts : (cpu : ℕ) → cpu < cpus → IsPart s cpu news key
 
--- the new key adds the parts of the processors below `cpus` to a key without parts
+-- the code of the beginning of a key with `count` numbers
+pub record IsBegunCode (s : StandingValue) (news : List Record) (count state openings cpus : ℕ)
+    (code : List ℕ) : Type 0 where
+  pub key : List ℕ
+  pub code_is : code ≡ number_code count ++ flat_map number_code key
+  pub begun : IsBegunKey s news state openings cpus key
+
+-- the new code adds the parts of the processors below `cpus` to the code of a key without parts
 abbrev pub AddsParts : StandingValue → (news : List Record) → (cpus : ℕ) → (old new : List ℕ) → Type 0
 AddsParts s news cpus old new =
-    (state openings : ℕ) → IsBegunKey s news state openings 0 old → IsBegunKey s news state openings cpus new
+    (count state openings : ℕ) → IsBegunCode s news count state openings 0 old
+    → IsBegunCode s news count state openings cpus new
 
 -- a key of the place after the new records: the numbers of the state and of the list of operations
 -- that a Cancel can undo there, and a part for each processor with a script
@@ -66,3 +77,9 @@ pub record IsKey (g : Setting) (s : StandingValue) (news : List Record) (key : L
   pub numbers_are : AreNumbersAt (plainly news) g news s.stops state openings
   pub parts : (cpu : ℕ) → cpu < length g.scripts → IsPart s cpu news key
   pub long : length key ≡ 2 * length g.scripts + 2
+
+-- the code of such a key: how many numbers it has, and then the numbers
+pub record IsKeyCode (g : Setting) (s : StandingValue) (news : List Record) (code : List ℕ) : Type 0 where
+  pub key : List ℕ
+  pub code_is : code ≡ counted_code key
+  pub key_is : IsKey g s news key

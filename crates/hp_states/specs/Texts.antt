@@ -1,4 +1,4 @@
--- Byte strings, keys or rows of shares, one after another in one buffer.
+-- Byte strings or rows of shares, one after another in one buffer.
 use Rattle.std.specs.Prelude.{ℕ, zero, suc, ◌≡◌, ◌≤◌, List, [], ◌∷◌, slice_range}
 
 -- the strings of a buffer from `start` on; `ends` are the indexes at which they end

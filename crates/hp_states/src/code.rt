@@ -1,4 +1,4 @@
-//! The buffer that a state is encoded into.
+//! The buffer that states and keys are encoded into.
 ghost use Rattle.std.specs.Prelude.{◌≡◌, [], ◌∷◌, ◌++◌, OnOk, option_map};
 ghost use Rattle.std.specs.List.{flat_map};
 ghost use Rattle.hp_states.specs.Numbers.{number_code, option_code, wide_code};
@@ -32,7 +32,7 @@ impl Code {
         }
     }
 
-    /// Removes all bytes but keeps the capacity, so that the next state reuses it.
+    /// Removes all bytes but keeps the capacity, so that the next code reuses it.
     pub(crate) fn clear(&mut self)
         ensures { self.new ≡ [] }
     {

@@ -13,14 +13,9 @@ pub(crate) fn digest_of(bytes: &[u8]) -> u64 {
 
 /// Returns the first eight bytes as one word, or all bytes if there are fewer.
 fn word_of(bytes: &[u8]) -> u64 {
-    match bytes.split_first_chunk::<8>() {
-        Some((first, _later)) => u64::from_le_bytes(*first),
-        None => short_word_of(bytes),
+    if let Some((first, _later)) = bytes.split_first_chunk::<8>() {
+        return u64::from_le_bytes(*first);
     }
-}
-
-/// Returns up to eight bytes as one word.
-fn short_word_of(bytes: &[u8]) -> u64 {
     let mut word = 0u64;
     for byte in bytes {
         word = (word << 8) | u64::from(*byte);

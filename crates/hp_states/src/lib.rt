@@ -6,10 +6,9 @@
 //!
 //! A place is where a schedule of scripts leads. The crate owns:
 //! - the numbers by which places are compared (`openings`, `exchanges`, `stops`, `standing`),
-//! - tables of keys made of such numbers (`key_table`), and of places with their states
-//!   (`place_table`),
-//! - the places walked so far, with how many schedules continue from each to each end (`memo`,
-//!   `rows`),
+//! - a table of places with their states (`place_table`),
+//! - the places walked so far, by keys made of such numbers, with how many schedules continue from
+//!   each to each end (`memo`, `rows`),
 //! - what a walk does when it reaches and leaves a place (`arrivals`).
 //!
 //! It makes no calls: hp_explore does.
@@ -26,7 +25,6 @@ mod ends;
 mod exchanges;
 mod frames;
 mod kept_counts;
-mod key_table;
 mod laws;
 mod memo;
 mod memories;
@@ -44,10 +42,9 @@ pub use ends::outcome_at;
 pub use exchanges::Exchanges;
 pub use frames::{Entry, Level};
 pub use kept_counts::kept_counts_are_added;
-pub use key_table::key_digest;
 pub use laws::codes_tell_states_apart;
 pub use memo::Memo;
-pub use place_table::PlaceTable;
+pub use place_table::{PlaceCode, PlaceSet};
 pub use rows::Rows;
 pub use stops::Stops;
 pub use watch::{KEPT_BYTES, Reach, Silent, Watch};

@@ -6,13 +6,14 @@ ghost use Rattle.hp_schedules.specs.Alike.{leaves_steps};
 ghost use Rattle.hp_schedules.specs.Cursors.{AreCursors};
 ghost use Rattle.hp_schedules.specs.Schedules.{Setting};
 ghost use Rattle.hp_states.specs.Seen.{AreSamePlaces, IsKeptMore, IsMemo, IsOnWay, IsRowAmong};
-ghost use Rattle.hp_states.specs.Standing.{AreSameNumbers, IsKey, KeepMeanings};
+ghost use Rattle.hp_states.specs.Standing.{AreSameNumbers, IsKeyCode, KeepMeanings};
 ghost use Rattle.hp_states.specs.Places.{IsPlace, memory_at};
 ghost use Rattle.hp_schedules.specs.declared.tally.Ending.{Ending};
 
-use crate::key_table::KeyTable;
+use crate::code::Code;
 use crate::rows::Rows;
 use crate::standing::Standing;
+use crate::texts::Texts;
 use hp_memory::Memory;
 use hp_schedules::{Positions, Share};
 use hp_units::{Cpu, Record};
@@ -21,12 +22,13 @@ use std::marker::Model;
 
 /// The places walked so far: the key of each, and how many schedules continue from it to each end.
 ///
-/// A place's key and its row of shares have the same index. `key` is the key written last.
+/// The code of a place's key and its row of shares have the same index. `key` is the code of the
+/// key written last.
 pub struct Memo {
     is_on: bool,
-    keys: KeyTable,
+    keys: Texts,
     rows: Rows,
-    key: Vec<u32>,
+    key: Code,
     standing: Standing,
     /// How many bytes the shares take.
     size: u64,
@@ -41,7 +43,7 @@ impl Model for Memo {
       is_on = m.is_on;
       keys = m.keys;
       rows = m.rows;
-      key = m.key.items;
+      key = m.key;
       standing = m.standing;
     } };
 }
@@ -86,9 +88,9 @@ impl Memo {
         let standing = Standing::start(alloc, processors, is_closed)?;
         Ok(Memo {
             is_on,
-            keys: KeyTable::new(alloc),
+            keys: Texts::new(alloc),
             rows: Rows::new(alloc),
-            key: Vec::new(alloc),
+            key: Code::new(alloc),
             standing,
             size: 0,
         })
@@ -123,8 +125,7 @@ impl Memo {
 
     /// Numbers the state at the place, writes the place's key, and returns whether it has one.
     ///
-    /// It has none if `is_on` is false, if it is unknown which operations a Cancel can take back,
-    /// or if a number does not fit 32 bits.
+    /// It has none if `is_on` is false, or if it is unknown which operations a Cancel can take back.
     pub(crate) fn come_to(
         &mut self,
         alloc: Global,
@@ -143,7 +144,7 @@ impl Memo {
         ensures on { IfOk result (λ has. has ≡ true → self.old.is_on ≡ true) }
         ensures ok { IfOk result (λ has. has ≡ true → (g : Setting) (news : List NewRecord)
             → IsPlace g news memory.now positions.now.cursors.items → IsOnWay g news self.old
-            → IsKey g self.new.standing news self.new.key) }
+            → IsKeyCode g self.new.standing news self.new.key) }
     {
         if !self.is_on {
             return Ok(false);
@@ -154,7 +155,7 @@ impl Memo {
 
     /// Returns about how many bytes the states and places take.
     pub fn bytes(&self) -> u64 {
-        let places = self.keys.bytes().saturating_add(self.size);
+        let places = self.keys.size().saturating_add(self.size);
         self.standing.size().saturating_add(places)
     }
 
@@ -171,7 +172,7 @@ impl Memo {
         ensures same { AreSamePlaces self.old self.new × (self.new.standing ≡ self.old.standing) }
         ensures ok { IfOk result (λ has. has ≡ true → (g : Setting) (news : List NewRecord)
             → AreCursors g news positions.now.cursors.items → IsOnWay g news self.old
-            → IsKey g self.new.standing news self.new.key) }
+            → IsKeyCode g self.new.standing news self.new.key) }
     {
         if !self.is_on {
             return Ok(false);
@@ -184,7 +185,7 @@ impl Memo {
     pub(crate) fn shares(&self) -> Option<&[Share]>
         ensures { IfSome result (λ shares. IsRowAmong self.now.keys self.now.rows self.now.key shares.now) }
     {
-        let Some(place) = self.keys.find(self.key.as_slice()) else {
+        let Some(place) = self.keys.find(self.key.bytes()) else {
             return None;
         };
         self.rows.row(place)
@@ -199,7 +200,7 @@ impl Memo {
             .size
             .saturating_add((shares.len() as u64).saturating_mul(16));
         self.rows.push(shares)?;
-        let _place = self.keys.add(self.key.as_slice())?;
+        let _place = self.keys.add(self.key.bytes())?;
         Ok(())
     }
 }

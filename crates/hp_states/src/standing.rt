@@ -6,11 +6,12 @@ ghost use Rattle.hp_units.specs.declared.replies.Record.{Record as NewRecord};
 ghost use Rattle.hp_schedules.specs.Alike.{leaves_steps};
 ghost use Rattle.hp_schedules.specs.Cursors.{AreCursors};
 ghost use Rattle.hp_schedules.specs.Schedules.{Setting};
-ghost use Rattle.hp_states.specs.Standing.{AddsParts, AreSameNumbers, IsKey, IsStanding, KeepMeanings};
+ghost use Rattle.hp_states.specs.Standing.{AddsParts, AreSameNumbers, IsKeyCode, IsStanding, KeepMeanings};
 ghost use Rattle.hp_states.specs.Places.{memory_at};
 
+use crate::code::Code;
 use crate::exchanges::Exchanges;
-use crate::stops::{Stops, push_two};
+use crate::stops::Stops;
 use hp_memory::Memory;
 use hp_schedules::Positions;
 use hp_units::{Cpu, Record, Serial};
@@ -107,56 +108,54 @@ impl Standing {
         self.stops.size()
     }
 
-    /// Writes the key of the current place into `key` and returns whether there is one.
+    /// Writes the code of the current place's key into `key` and returns whether there is one.
     ///
-    /// There is none if the cancellable operations are unknown, the state has no number, or a
-    /// number does not fit 32 bits.
+    /// There is none if the cancellable operations are unknown or the state has no number.
     pub(crate) fn key(
         &self,
         positions: &Positions,
         processors: u32,
-        key: &mut Vec<u32>,
+        key: &mut Code,
     ) -> Result<bool, AllocError>
         requires processors { processors ≡ length positions.now.cursors.items }
         requires standing { (g : Setting) × (news : List NewRecord)
             × AreCursors g news positions.now.cursors.items × IsStanding g news self.now }
         ensures { IfOk result (λ has. has ≡ true → (g : Setting) (news : List NewRecord)
             → AreCursors g news positions.now.cursors.items → IsStanding g news self.now
-            → IsKey g self.now news key.new.items) }
+            → IsKeyCode g self.now news key.new) }
     {
         key.clear();
+        key.number(2 * u64::from(processors) + 2)?;
         let has = self.stops.push_numbers(key)?;
         if !has {
             return Ok(false);
         }
-        self.push_parts(positions, processors, key)
+        self.push_parts(positions, processors, key)?;
+        Ok(true)
     }
 
-    /// Appends each processor's part of a key and returns whether all numbers fit 32 bits. If not,
-    /// the contents of `key` are unspecified.
+    /// Appends each processor's part of a key.
     #[inline(always)]
     fn push_parts(
         &self,
         positions: &Positions,
         processors: u32,
-        key: &mut Vec<u32>,
-    ) -> Result<bool, AllocError>
+        key: &mut Code,
+    ) -> Result<(), AllocError>
         requires processors { processors ≡ length positions.now.cursors.items }
         requires standing { (g : Setting) × (news : List NewRecord)
             × AreCursors g news positions.now.cursors.items × IsStanding g news self.now }
-        ensures { IfOk result (λ fit. fit ≡ true → (g : Setting) (news : List NewRecord)
+        ensures { OnOk result ((g : Setting) (news : List NewRecord)
             → AreCursors g news positions.now.cursors.items → IsStanding g news self.now
-            → AddsParts self.now news processors key.old.items key.new.items) }
+            → AddsParts self.now news processors key.old key.new) }
     {
         let numbers = self.exchanges.numbers();
         for cpu in 0..processors {
             let number = numbers[cpu as usize];
             let begun = positions.operation(cpu);
-            let fit = push_two(key, number as u64, begun.0)?;
-            if !fit {
-                return Ok(false);
-            }
+            key.number(number as u64)?;
+            key.number(begun.0)?;
         }
-        Ok(true)
+        Ok(())
     }
 }

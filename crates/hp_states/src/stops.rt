@@ -10,9 +10,11 @@ ghost use Rattle.hp_renumbering.specs.Numberings.{number_of};
 ghost use Rattle.hp_schedules.specs.Openings.{renumbered_change};
 ghost use Rattle.hp_states.specs.Interned.{KeepNumbers};
 ghost use Rattle.hp_states.specs.Numbered.{IsNumbered, IsStateAt};
+ghost use Rattle.hp_states.specs.Numbers.{number_code};
 ghost use Rattle.hp_states.specs.Stops.{AreNumbersAt, AreSameStops, AreStopsAt, IsNumbering, KeepStops};
 
 use crate::Codes;
+use crate::code::Code;
 use crate::openings::Openings;
 use hp_memory::Memory;
 use hp_renumbering::number_of;
@@ -177,10 +179,10 @@ impl Stops {
     }
 
     /// Appends the number of the state and that of the list of cancellable operations, and returns
-    /// whether both are known and fit 32 bits. If not, what is appended is unspecified.
-    pub fn push_numbers(&self, numbers: &mut Vec<u32>) -> Result<bool, AllocError>
+    /// whether both are known. If not, appends nothing.
+    pub(crate) fn push_numbers(&self, code: &mut Code) -> Result<bool, AllocError>
         ensures { IfOk result (λ has. has ≡ true → (state : ℕ) × (openings : ℕ)
-            × (numbers.new.items ≡ numbers.old.items ++ state ∷ openings ∷ [])
+            × (code.new ≡ code.old ++ number_code state ++ number_code openings)
             × ((at : List NewRecord → ℕ → ℕ) (g : Setting) (news : List NewRecord)
             → AreStopsAt at g news self.now
             → AreNumbersAt (at news) g news self.now state openings)) }
@@ -191,7 +193,9 @@ impl Stops {
         let Some(openings) = self.here.openings else {
             return Ok(false);
         };
-        push_two(numbers, state as u64, openings as u64)
+        code.number(state as u64)?;
+        code.number(openings as u64)?;
+        Ok(true)
     }
 }
 
@@ -248,21 +252,4 @@ fn numbered(change: Change, fixed: Serial, latest: &[Serial]) -> Option<Change>
         Change::Begins => Some(Change::Begins),
         Change::Ends => Some(Change::Ends),
     }
-}
-
-/// Appends two numbers and returns whether both fit 32 bits. If not, the contents of `numbers` are
-/// unspecified.
-pub(crate) fn push_two(numbers: &mut Vec<u32>, first: u64, second: u64) -> Result<bool, AllocError>
-    ensures { IfOk result (λ fit. fit ≡ true
-        → numbers.new.items ≡ numbers.old.items ++ first ∷ second ∷ []) }
-{
-    let Ok(first) = u32::try_from(first) else {
-        return Ok(false);
-    };
-    let Ok(second) = u32::try_from(second) else {
-        return Ok(false);
-    };
-    numbers.push(first)?;
-    numbers.push(second)?;
-    Ok(true)
 }

@@ -1,6 +1,6 @@
 //! Interned byte strings.
-ghost use Rattle.std.specs.Prelude.{◌≡◌, ◌<◌, ◌++◌, ◌∷◌, [], IfOk, IfSome, OnOk, Some, length, slice_get};
-ghost use Rattle.hp_states.specs.Codes.{IsFoundOrAdded, KeepCodes};
+ghost use Rattle.std.specs.Prelude.{◌≡◌, ◌<◌, ◌≤◌, ◌++◌, ◌∷◌, [], IfNone, IfOk, IfSome, OnErr, OnOk, Some, length, slice_get, true};
+ghost use Rattle.hp_states.specs.Codes.{IsAmong, IsFoundOrAdded, KeepCodes};
 ghost use Rattle.hp_states.specs.Texts.{AreTextsFrom, start_of, texts_from};
 
 use crate::digests::digest_of;
@@ -10,7 +10,7 @@ use std::marker::Model;
 
 /// About how many bytes a table takes per entry, besides the entry itself: hash, number, slot and
 /// spare room.
-pub(crate) const TABLE_BYTES: u64 = 64;
+const TABLE_BYTES: u64 = 64;
 
 /// Byte strings in one buffer, with the end of each.
 ///
@@ -66,20 +66,46 @@ impl Texts {
         let digest = digest_of(text);
         match self.found(digest, text) {
             Some(number) => Ok(number),
-            None => self.add(digest, text),
+            None => self.append(digest, text),
         }
     }
 
-    /// Returns whether `text` is found, and adds it if not.
+    /// Returns whether `text` is found. If not, it may still be among the strings.
+    pub(crate) fn has(&self, text: &[u8]) -> bool
+        ensures { result ≡ true → IsAmong self.now text.now }
+    {
+        self.found(digest_of(text), text).is_some()
+    }
+
+    /// Returns whether `text` is found, and adds it if not. If memory runs out, the strings stay as
+    /// they were.
     pub(crate) fn find_or_add(&mut self, text: &[u8]) -> Result<bool, AllocError>
-        ensures { IfOk result (IsFoundOrAdded self.old self.new text.now) }
+        ensures ok { IfOk result (IsFoundOrAdded self.old self.new text.now) }
+        ensures err { OnErr result (self.new ≡ self.old) }
     {
         let digest = digest_of(text);
         if self.found(digest, text).is_some() {
             return Ok(true);
         }
-        let _number = self.add(digest, text)?;
+        let _number = self.append(digest, text)?;
         Ok(false)
+    }
+
+    /// Returns the number of `text` if it is the newest string with its hash.
+    pub(crate) fn find(&self, text: &[u8]) -> Option<usize>
+        ensures { IfSome result (λ n. slice_get self.now n ≡ Some text.now) }
+    {
+        self.found(digest_of(text), text)
+    }
+
+    /// Appends a string, also one that is there already, and returns its number. If memory runs
+    /// out, the strings stay as they were.
+    pub(crate) fn add(&mut self, text: &[u8]) -> Result<usize, AllocError>
+        ensures ok { OnOk result (self.new ≡ self.old ++ text.now ∷ []) }
+        ensures number { IfOk result (λ n. n ≡ length self.old) }
+        ensures err { OnErr result (self.new ≡ self.old) }
+    {
+        self.append(digest_of(text), text)
     }
 
     /// Returns about how many bytes the strings take.
@@ -89,7 +115,7 @@ impl Texts {
         )
     }
 
-    /// Returns the number of `text` if it is the newest string with its hash.
+    /// Returns the number of `text` if it is the newest string with this hash.
     ///
     /// An older string with the same hash is not looked for: a collision costs a second copy, never
     /// a wrong number.
@@ -99,36 +125,18 @@ impl Texts {
         let Some(number) = self.latest.get(&digest) else {
             return None;
         };
-        let Some(kept) = self.text(*number) else {
+        let Some(kept) = text_in(&self.bytes, &self.ends, *number) else {
             return None;
         };
         if kept == text { Some(*number) } else { None }
     }
 
-    /// Returns the string with this number, if there is one.
-    fn text(&self, number: usize) -> Option<&[u8]>
-        ensures { IfSome result (λ text. slice_get self.now number ≡ Some text.now) }
-    {
-        if number < self.ends.len() {
-            Some(self.text_at(number))
-        } else {
-            None
-        }
-    }
-
-    /// Returns the string with a number that is in use.
-    fn text_at(&self, number: usize) -> &[u8]
-        requires { number < length self.now }
-        ensures { slice_get self.now number ≡ Some result.now }
-    {
-        text_in(&self.bytes, &self.ends, number)
-    }
-
-    /// Appends a string and returns its number.
-    fn add(&mut self, digest: u64, text: &[u8]) -> Result<usize, AllocError>
-        ensures kept { KeepCodes self.old self.new }
-        ensures ok { IfOk result (λ n. slice_get self.new n ≡ Some text.now) }
-        ensures added { OnOk result (self.new ≡ self.old ++ text.now ∷ []) }
+    /// Appends a string under its hash and returns its number. If memory runs out, the strings stay
+    /// as they were.
+    fn append(&mut self, digest: u64, text: &[u8]) -> Result<usize, AllocError>
+        ensures ok { OnOk result (self.new ≡ self.old ++ text.now ∷ []) }
+        ensures number { IfOk result (λ n. n ≡ length self.old) }
+        ensures err { OnErr result (self.new ≡ self.old) }
     {
         self.ends.reserve(1)?;
         let number = self.ends.len();
@@ -142,15 +150,19 @@ impl Texts {
     }
 }
 
-/// Returns one string from the buffer.
-fn text_in<'a>(bytes: &'a [u8], ends: &[usize], number: usize) -> &'a [u8]
-    requires texts { AreTextsFrom (length bytes.now) 0 ends.now }
-    requires number { number < length ends.now }
-    ensures { slice_get (texts_from bytes.now 0 ends.now) number ≡ Some result.now }
+/// Returns the string with this number, if there is one. `bytes` has all strings, one after
+/// another, and `ends` has the end of each.
+fn text_in<'a>(bytes: &'a [u8], ends: &[usize], number: usize) -> Option<&'a [u8]>
+    requires { AreTextsFrom (length bytes.now) 0 ends.now }
+    ensures some { IfSome result (λ text. slice_get (texts_from bytes.now 0 ends.now) number
+        ≡ Some text.now) }
+    ensures none { IfNone result (length ends.now ≤ number) }
 {
+    if number >= ends.len() {
+        return None;
+    }
     let start = start_of(ends, number);
-    let end = ends[number];
-    &bytes[start..end]
+    bytes.get(start..ends[number])
 }
 
 /// Returns where a string or row starts in its buffer, which is where the one before it ends.

@@ -6,7 +6,7 @@ use hp_schedules::{
     CallScript, Change, Outcome, Positions, Shard, Share, Step, Tally, all_answers, are_mergeable,
     call_count, change_of, fit_in, is_closed, learn, mixed, reply_number, schedule_of,
 };
-use hp_states::{Exchanges, Rows, key_digest};
+use hp_states::{Exchanges, Rows};
 use hp_units::{Cpu, Event, Frame, Order, Record, Reply, Serial};
 use indexmap::IndexMap;
 use std::alloc::{AllocError, Global};
@@ -113,7 +113,7 @@ fn is_kept(alloc: Global) -> Result<bool, AllocError> {
 /// Returns whether a number that was stored under a hash is found under this hash.
 fn is_learned(alloc: Global) -> Result<bool, AllocError> {
     let mut latest = IndexMap::new(alloc);
-    let digest = mixed(key_digest(&[3]), reply_number(&Reply::Done));
+    let digest = mixed(3, reply_number(&Reply::Done));
     learn(&mut latest, digest, 5)?;
     Ok(latest.get(&digest).copied() == Some(5))
 }

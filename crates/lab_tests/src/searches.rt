@@ -4,7 +4,9 @@ use hp_explore::{KEPT_BYTES, Silent, Watch};
 use hp_questions::{Wanted, wanted_line};
 use hp_search::{FindResult, LabFault, ScheduleForm, find_text};
 use std::alloc::{AllocError, Global};
+use std::sync::Wait;
 use std::test::Fail;
+use std::thread::Threads;
 
 /// An offline against a map, with one free frame outside the block, which both may need.
 const RACE: &str =
@@ -74,13 +76,18 @@ impl Watch for EndsAfter {
     }
 }
 
-/// Returns whether a search for an end has the expected text and result.
-fn finds(alloc: Global, searched: &Searched) -> Result<bool, AllocError> {
+/// Returns whether a search for an end in `jobs` threads has the expected text and result.
+fn finds<R: Threads + Wait + Sync>(
+    rt: &R,
+    alloc: Global,
+    jobs: u32,
+    searched: &Searched,
+) -> Result<bool, AllocError> {
     let (texts, form, text, result) = searched;
     let wanted = wanted_of(alloc, texts)?;
     let scenario = scenario(alloc, 40, RACE)?;
     let input = scenario.as_bytes();
-    match find_text(alloc, input, 3, &wanted, *form, &mut Silent) {
+    match find_text(rt, alloc, input, 3, &wanted, *form, jobs, &mut Silent) {
         Ok(finding) => Ok(finding.result == *result && finding.text.as_str() == *text),
         Err(_fault) => Ok(false),
     }
@@ -136,10 +143,16 @@ const IN_OTHER_FORMS: &[Searched] = &[
     (NOT_THERE, ScheduleForm::Scenario, "", FindResult::Absent),
 ];
 
-/// Returns the index of the first search whose text or result is not the expected one.
-fn first_other(alloc: Global, rows: &[Searched]) -> Result<Option<usize>, AllocError> {
+/// Returns the index of the first search in `jobs` threads whose text or result is not the expected
+/// one.
+fn first_other<R: Threads + Wait + Sync>(
+    rt: &R,
+    alloc: Global,
+    jobs: u32,
+    rows: &[Searched],
+) -> Result<Option<usize>, AllocError> {
     for (place, row) in rows.iter().enumerate() {
-        if !finds(alloc, row)? {
+        if !finds(rt, alloc, jobs, row)? {
             return Ok(Some(place));
         }
     }
@@ -148,13 +161,23 @@ fn first_other(alloc: Global, rows: &[Searched]) -> Result<Option<usize>, AllocE
 
 #[test]
 fn the_fewest_changes_are_found(rt: HostRuntime) -> Result<(), Fail> {
-    assert!(rt; first_other(rt.alloc(), IN_WORDS)?.is_none());
+    assert!(rt; first_other(&rt, rt.alloc(), 1, IN_WORDS)?.is_none());
+    Ok(())
+}
+
+#[test]
+fn threads_find_the_same(rt: HostRuntime) -> Result<(), Fail> {
+    for jobs in 2..6 {
+        assert!(rt; first_other(&rt, rt.alloc(), jobs, IN_WORDS)?.is_none());
+        assert!(rt; first_other(&rt, rt.alloc(), jobs, IN_OTHER_FORMS)?.is_none());
+    }
     Ok(())
 }
 
 /// Returns whether a search that is ended after this many states has the result `Unknown` and this
 /// text.
-fn ends_unknown(
+fn ends_unknown<R: Threads + Wait + Sync>(
+    rt: &R,
     alloc: Global,
     states: u64,
     form: ScheduleForm,
@@ -163,7 +186,16 @@ fn ends_unknown(
     let wanted = wanted_of(alloc, NOT_THERE)?;
     let scenario = scenario(alloc, 40, RACE)?;
     let input = scenario.as_bytes();
-    match find_text(alloc, input, 3, &wanted, form, &mut EndsAfter(states)) {
+    match find_text(
+        rt,
+        alloc,
+        input,
+        3,
+        &wanted,
+        form,
+        1,
+        &mut EndsAfter(states),
+    ) {
         Ok(finding) => {
             Ok(finding.result == FindResult::Unknown && finding.text.as_str() == text)
         }
@@ -173,10 +205,10 @@ fn ends_unknown(
 
 #[test]
 fn a_search_that_is_ended_knows_nothing(rt: HostRuntime) -> Result<(), Fail> {
-    assert!(rt; ends_unknown(rt.alloc(), 0, ScheduleForm::Words, UNKNOWN)?);
-    assert!(rt; ends_unknown(rt.alloc(), 2, ScheduleForm::Object, UNKNOWN_OBJECT)?);
-    assert!(rt; ends_unknown(rt.alloc(), 1, ScheduleForm::Scenario, "")?);
-    assert!(rt; !ends_unknown(rt.alloc(), 1000, ScheduleForm::Words, UNKNOWN)?);
+    assert!(rt; ends_unknown(&rt, rt.alloc(), 0, ScheduleForm::Words, UNKNOWN)?);
+    assert!(rt; ends_unknown(&rt, rt.alloc(), 2, ScheduleForm::Object, UNKNOWN_OBJECT)?);
+    assert!(rt; ends_unknown(&rt, rt.alloc(), 1, ScheduleForm::Scenario, "")?);
+    assert!(rt; !ends_unknown(&rt, rt.alloc(), 1000, ScheduleForm::Words, UNKNOWN)?);
     Ok(())
 }
 
@@ -189,13 +221,13 @@ fn what_is_past_the_layout_is_not_searched(rt: HostRuntime) -> Result<(), Fail> 
     let scenario = scenario(rt.alloc(), 40, RACE)?;
     let input = scenario.as_bytes();
     let form = ScheduleForm::Words;
-    let found = find_text(rt.alloc(), input, 3, &wanted, form, &mut Silent);
+    let found = find_text(&rt, rt.alloc(), input, 3, &wanted, form, 1, &mut Silent);
     assert!(rt; matches!(found, Err(LabFault::PastLayout { number: 3 })));
     Ok(())
 }
 
 #[test]
 fn what_is_found_has_other_forms(rt: HostRuntime) -> Result<(), Fail> {
-    assert!(rt; first_other(rt.alloc(), IN_OTHER_FORMS)?.is_none());
+    assert!(rt; first_other(&rt, rt.alloc(), 1, IN_OTHER_FORMS)?.is_none());
     Ok(())
 }

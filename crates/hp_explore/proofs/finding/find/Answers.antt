@@ -1,30 +1,5 @@
--- What the passes found, and why one failed.
-use Rattle.std.proofs.Common.{Global, None, Some, Vec}
-use Rattle.std.proofs.lemmas.Result.{err_from_is_err_and}
-use Rattle.hp_units.specs.declared.Cpu.{Cpu}
-use Rattle.hp_explore.specs.Settings.{setting}
-use Rattle.hp_explore.specs.FindFaults.{few_changes}
-use Rattle.hp_explore.specs.Reaching.{NeedsChanges}
-use Rattle.hp_explore.proofs.Levels.{first_at, first_of_all, nearer_cause, nearest_at}
+-- A thread came to the end, so no schedule ends as wanted.
 use Rattle.hp_explore.proofs.finding.find.Goals as goal
 
-pub returns-in_err-schedule-in-Some-2-clause-err : goal.returns-in_err-schedule-in-Some-2-clause-err
-returns-in_err-schedule-in-Some-2-clause-err g c =
-    let p =
-    err_from_is_err_and c.from_residual-in_err-schedule-in-Some-2.result
-    c.from_residual-in_err-schedule-in-Some-2.ensures.1 in
-    let start = setting c.args.machine.now c.args.scripts.now in
-    let needs : NeedsChanges start c.args.wanted.now few_changes =
-    nearest_at (λ (s : Vec Cpu Global). s.items) start c.args.wanted.now few_changes
-    c.in_ok-schedule.field-0 None c.in_default.is c.in_ok-schedule.ensures.ok in
-    rw (p.1, p.2)
-    (nearer_cause start c.args.wanted.now c.in-Some-2.known.items _ needs
-    (first_of_all start c.args.wanted.now c.in-Some-2.known.items
-    (first_at (λ (s : Vec Cpu Global). s.items) start c.args.wanted.now None c.in_ok-known.field-0
-    (Some c.in-Some-2.known) c.in-Some-2.is c.in_ok-known.ensures.ok))
-    c.in_err-schedule-in-Some-2.ensures.err)
-
-pub returns-in-None-clause-ok : goal.returns-in-None-clause-ok
-returns-in-None-clause-ok g c =
-    (first_at (λ (s : Vec Cpu Global). s.items) (setting c.args.machine.now c.args.scripts.now)
-    c.args.wanted.now None c.in_ok-known.field-0 None c.in-None.is c.in_ok-known.ensures.ok).0
+pub returns-then-is_absent-clause-ok : goal.returns-then-is_absent-clause-ok
+returns-then-is_absent-clause-ok g c = λ s reaches. (c.is_absent.ensures c.if-is_absent.true).0 s reaches

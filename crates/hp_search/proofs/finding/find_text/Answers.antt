@@ -25,7 +25,7 @@ returns-in-Some-clause-err g c =
     c.in-Some.ensures.some)
 
 pub found-requires-clause-within : goal.found-requires-clause-within
-found-requires-clause-within g c =
+found-requires-clause-within g c κs within =
     subst (λ (l : LayoutParts). AreWithin l c.args.wanted.now) c.layout.ensures c.in_default.ensures.none
 
 pub returns-in-Ok-clause-ok : goal.returns-in-Ok-clause-ok

@@ -1,27 +1,18 @@
-use Rattle.std.proofs.Common.{◌-◌, ◌∙◌, ℕ, Some, ap, arith, drop, get_or, length, sym, take}
-use Rattle.hp_states.proofs.Joined.{lies_within, text_at}
+-- The part of the bytes that ends where the text does.
+use Rattle.std.proofs.Common.{Bor, List, ℕ, length, refl}
+use Rattle.hp_states.specs.Texts.{texts_from}
+use Rattle.hp_states.proofs.InRows.{row_shown, row_there}
 use Rattle.hp_states.proofs.texts.text_in.Goals as goal
 
-pub slice_bounds-result-count : goal.slice_bounds-result-count
-slice_bounds-result-count c =
-    let lies = lies_within (length c.args.bytes.now) 0 c.args.ends.now c.args.number c.requires.texts
-    c.requires.number in
-    omega (arith, lies.ordered, c.start_of-start.ensures)
+pub returns-clause-some : goal.returns-clause-some
+returns-clause-some c =
+    row_shown (λ (text : Bor (List ℕ)). text.now) c.get.result
+    (texts_from c.args.bytes.now 0 c.args.ends.now) c.args.number c.start_of-start.result c.args.bytes.now
+    c.args.bytes.now c.args.ends.now c.args.ends.now refl refl refl c.if-number-ends.false
+    c.start_of-start.ensures c.get.ensures.lookup
 
-pub slice_bounds-result-start : goal.slice_bounds-result-start
-slice_bounds-result-start c =
-    let lies = lies_within (length c.args.bytes.now) 0 c.args.ends.now c.args.number c.requires.texts
-    c.requires.number in
-    omega (arith, lies.ordered, lies.within, c.start_of-start.ensures)
-
-pub slice_bounds-result-end : goal.slice_bounds-result-end
-slice_bounds-result-end c =
-    let lies = lies_within (length c.args.bytes.now) 0 c.args.ends.now c.args.number c.requires.texts
-    c.requires.number in
-    omega (arith, lies.ordered, lies.within, c.start_of-start.ensures)
-
-pub returns : goal.returns
-returns c =
-    text_at c.args.bytes.now 0 c.args.ends.now c.args.number c.requires.number
-    ∙ ap (λ (start : ℕ). Some (take (get_or c.args.ends.now c.args.number 0 - start)
-    (drop start c.args.bytes.now))) (sym c.start_of-start.ensures)
+pub returns-clause-none : goal.returns-clause-none
+returns-clause-none c =
+    row_there (λ (text : Bor (List ℕ)). text.now) c.get.result (length c.args.ends.now) c.args.number
+    c.start_of-start.result c.args.bytes.now c.args.bytes.now c.args.ends.now c.args.ends.now c.requires
+    refl refl c.if-number-ends.false c.start_of-start.ensures c.get.ensures.lookup

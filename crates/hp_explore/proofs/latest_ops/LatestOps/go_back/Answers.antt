@@ -1,5 +1,5 @@
 -- The place before it on the way is known again.
-use Rattle.std.proofs.Common.{◌-◌, ℕ, List, ap, take, ◌∙◌}
+use Rattle.std.proofs.Common.{◌-◌, ℕ, ap, take, ◌∙◌}
 use Rattle.hp_explore.proofs.LatestPaths.{latest_less}
 use Rattle.hp_explore.proofs.latest_ops.LatestOps.go_back.Goals as goal
 

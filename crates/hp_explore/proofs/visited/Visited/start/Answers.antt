@@ -1,8 +1,8 @@
 -- The numbers are those of the place where the scripts begin.
-use Rattle.std.proofs.Common.{[], ap, length, subst, sym, arith, ◌∙◌}
+use Rattle.std.proofs.Common.{◌≡◌, [], Some, ap, length, slice_get, subst, sym, arith, ◌∙◌}
 use Rattle.hp_schedules.specs.Alike.{is_closed}
 use Rattle.hp_schedules.specs.Cursors.{AreCursors}
-use Rattle.hp_states.specs.Stops.{AreStopsAt}
+use Rattle.hp_states.specs.Stops.{AreStopsAt, StopsValue}
 use Rattle.hp_states.proofs.StopNumbers.{begun_at}
 use Rattle.hp_explore.specs.LatestOps.{latest_here, numbering}
 use Rattle.hp_explore.specs.Paths.{PathValue, state_at}
@@ -38,3 +38,8 @@ returns-clause-way c =
       latest,
       c.greatest_named-fixed.ensures,
     )
+
+pub returns-clause-base : goal.returns-clause-base
+returns-clause-base c =
+    λ n ns here. c.in_ok-number_state.ensures.kept.lists n ns
+    (subst (λ (s : StopsValue). slice_get s.lists n ≡ Some ns) (sym c.start-stops.ensures) here)

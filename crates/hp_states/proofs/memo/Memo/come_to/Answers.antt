@@ -40,14 +40,14 @@ returns-in_err-number_state-clause-memo c =
       is_on = c.self.inside.is_on;
       keys = c.self.inside.keys;
       rows = c.self.inside.rows;
-      key = c.self.inside.key.items;
+      key = c.self.inside.key;
       standing = c.self.inside.standing;
     })
     (record {
       is_on = c.self.inside.is_on;
       keys = c.self.inside.keys;
       rows = c.self.inside.rows;
-      key = c.self.inside.key.items;
+      key = c.self.inside.key;
       standing = c.number_state.new.self;
     })
     (refl, refl, refl) c.number_state.ensures.kept (subst (IsMemo g ends) (sym c.self.view_is) kept)
@@ -59,14 +59,14 @@ returns-clause-memo c =
       is_on = c.self.inside.is_on;
       keys = c.self.inside.keys;
       rows = c.self.inside.rows;
-      key = c.self.inside.key.items;
+      key = c.self.inside.key;
       standing = c.self.inside.standing;
     })
     (record {
       is_on = c.self.inside.is_on;
       keys = c.self.inside.keys;
       rows = c.self.inside.rows;
-      key = c.key.new.key.items;
+      key = c.key.new.key;
       standing = c.number_state.new.self;
     })
     (refl, refl, refl) c.number_state.ensures.kept (subst (IsMemo g ends) (sym c.self.view_is) kept)

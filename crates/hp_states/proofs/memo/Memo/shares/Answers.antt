@@ -10,5 +10,5 @@ returns c =
     subst (λ (m : MemoValue). IfSome c.row.result (λ row. IsRowAmong m.keys m.rows m.key row.now))
     c.self.view_is
     (row_among (λ (row : Bor (List Share)). row.now) c.row.result c.self.inside.keys c.self.inside.rows
-    c.self.inside.key.items c.as_slice.result.now c.in-Some.place c.as_slice.ensures.value
+    c.self.inside.key c.bytes.result.now c.in-Some.place c.bytes.ensures
     c.in-Some.ensures c.row.ensures.some)

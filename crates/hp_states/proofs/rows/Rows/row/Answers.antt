@@ -14,7 +14,7 @@ returns-clause-some c =
 
 pub returns-clause-none : goal.returns-clause-none
 returns-clause-none c =
-    row_there (λ (row : Bor (List Share)). row.now) c.get.result c.args.self.now c.args.place
+    row_there (λ (row : Bor (List Share)). row.now) c.get.result (length c.args.self.now) c.args.place
     c.start_of-start.result c.self.inside.shares.items c.as_slice-shares.result.now c.self.inside.ends.items
     c.as_slice-ends.result.now c.self.invariant c.as_slice-shares.ensures.value
     c.as_slice-ends.ensures.value c.if-place-ends.false c.start_of-start.ensures c.get.ensures.lookup

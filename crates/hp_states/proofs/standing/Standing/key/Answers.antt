@@ -1,9 +1,8 @@
 -- A key that begins with the numbers of the place gets the parts of all processors.
-use Rattle.std.proofs.Common.{ap, subst, sym, ◌∙◌}
-use Rattle.std.proofs.lemmas.Result.{IfOk-weaker}
+use Rattle.std.proofs.Common.{ap, arith, subst, sym, ◌*◌, ◌+◌, ◌∙◌}
 use Rattle.hp_states.specs.Standing.{StandingValue, plainly}
 use Rattle.hp_states.specs.Stops.{AreNumbersAt, AreStopsAt, StopsValue}
-use Rattle.hp_states.proofs.Keys.{key_made}
+use Rattle.hp_states.proofs.Keys.{code_made}
 use Rattle.hp_states.proofs.standing.Standing.key.Goals as goal
 
 pub push_parts-requires-clause-processors : goal.push_parts-requires-clause-processors
@@ -16,11 +15,9 @@ pub returns : goal.returns
 returns c =
     let two = c.in_ok-has.ensures c.if-not-has.false in
     let stops_are = ap (λ (s : StandingValue). s.stops) c.self.view_is in
-    IfOk-weaker c.push_parts.result _ _
-    (λ fit made whole g news at stands. key_made g c.args.self.now news two.0 two.1
-    c.args.processors c.clear.new.self.items c.push_numbers.new.numbers.items
-    c.push_parts.new.key.items (c.requires.processors ∙ at.many)
+    λ whole g news at stands. code_made g c.args.self.now news (2 * c.from.result + 2) two.0 two.1
+    c.args.processors c.clear.new.self c.number.new.self c.push_numbers.new.code c.push_parts.new.key
+    (c.requires.processors ∙ at.many) (omega (arith, c.from.ensures))
     (subst (λ (s : StopsValue). AreNumbersAt (plainly news) g news s two.0 two.1) stops_are
     (two.3 plainly g news (subst (AreStopsAt plainly g news) (sym stops_are) stands.stops)))
-    c.clear.ensures.items two.2 (made whole g news at stands))
-    c.push_parts.ensures
+    c.clear.ensures c.in_ok-number.ensures two.2 (c.in_ok-push_parts.ensures g news at stands)

@@ -1,7 +1,7 @@
 -- Each processor's part is added in its turn.
 use Rattle.std.proofs.Common.{ℕ, ap, arith, get_or, subst, ◌∙◌}
-use Rattle.hp_states.specs.Standing.{IsBegunKey, StandingValue}
-use Rattle.hp_states.proofs.Keys.{key_more}
+use Rattle.hp_states.specs.Standing.{IsBegunCode, StandingValue}
+use Rattle.hp_states.proofs.Keys.{code_more}
 use Rattle.hp_states.proofs.Stood.{number_inside, number_read}
 use Rattle.hp_states.proofs.standing.Standing.push_parts.Goals as goal
 
@@ -13,15 +13,16 @@ bounds-numbers-cpu c =
     (omega (arith, c.loop-cpu-test.true, c.requires.processors, stand.2.many)) stand.3
 
 pub loop-cpu-init : goal.loop-cpu-init
-loop-cpu-init c = λ g news at stands state openings begun. begun
+loop-cpu-init c = λ g news at stands count state openings begun. begun
 
 pub loop-cpu-preserved : goal.loop-cpu-preserved
 loop-cpu-preserved c =
-    λ g news at stands state openings begun.
-    key_more c.args.self.now news state openings c.loop-cpu.cpu
-    (get_or c.numbers-numbers.result.now c.loop-cpu.cpu 0) c.begun.inside.0 c.loop-cpu.key.items
-    c.push_two.new.numbers.items (c.loop-cpu.invariant g news at stands state openings begun)
-    (c.in_ok-fit.ensures c.if-not-fit.false)
+    λ g news at stands count state openings begun.
+    code_more c.args.self.now news count state openings c.loop-cpu.cpu
+    (get_or c.numbers-numbers.result.now c.loop-cpu.cpu 0) c.begun.inside.0 c.loop-cpu.key
+    c.number.new.self c.number-in-loop-cpu.new.self
+    (c.loop-cpu.invariant g news at stands count state openings begun) c.in_ok-number.ensures
+    c.in_ok-number-2.ensures
     (number_read g news c.args.self.now c.numbers-numbers.result.now c.loop-cpu.cpu
     (c.numbers-numbers.ensures ∙ ap (λ (s : StandingValue). s.exchanged.here) c.self.view_is)
     (omega (arith, c.loop-cpu-test.true, c.requires.processors, at.many)) stands)
@@ -29,7 +30,7 @@ loop-cpu-preserved c =
 
 pub returns : goal.returns
 returns c =
-    λ whole g news at stands state openings begun.
-    subst (λ (cpus : ℕ). IsBegunKey c.args.self.now news state openings cpus c.loop-cpu.key.items)
+    λ g news at stands count state openings begun.
+    subst (λ (cpus : ℕ). IsBegunCode c.args.self.now news count state openings cpus c.loop-cpu.key)
     (omega (arith, c.loop-cpu-test.false, c.loop-cpu.auto.cpu-end))
-    (c.loop-cpu.invariant g news at stands state openings begun)
+    (c.loop-cpu.invariant g news at stands count state openings begun)
