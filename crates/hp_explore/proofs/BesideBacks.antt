@@ -1,17 +1,19 @@
 -- A place of which one thread's walk has tried all calls, and the way back from it.
-use Rattle.std.proofs.Common.{◌≡◌, ℕ, ◌+◌, ◌%◌, ◌<◌, ◌≤◌, Bool, true, false, List, [], ◌∷◌, ◌++◌, length, Option, Some, None, refl, ap, sym, subst, ◌∙◌, arith, cond}
+use Rattle.std.proofs.Common.{◌≡◌, ℕ, ◌+◌, ◌%◌, ◌<◌, ◌≤◌, Bool, true, false, List, [], ◌∷◌, ◌++◌, length, Option, Some, None, get_or, refl, ap, sym, subst, ◌∙◌, arith, cond}
 use Rattle.std.specs.Prelude.{MatchOption, nat_lt, option_to_list}
 use Rattle.std.proofs.lemmas.Bool.{ltb-true}
 use Rattle.std.proofs.lemmas.Nat.{mod_below}
-use Rattle.std.proofs.lemmas.List.{length_push, same_from_push}
+use Rattle.std.proofs.lemmas.List.{length-map, length_push, same_from_push}
 use Rattle.hp_units.specs.declared.replies.Record.{Record}
 use Rattle.hp_questions.specs.declared.wanted.Wanted.{Wanted}
 use Rattle.hp_schedules.specs.Digests.{mixed}
 use Rattle.hp_schedules.specs.Schedules.{Setting, plays, schedule_of}
-use Rattle.hp_states.specs.Stops.{AreSameStops, KeepStops, StopsValue}
+use Rattle.hp_states.specs.Stops.{AreSameStops, KeepStops}
 use Rattle.hp_states.proofs.StopNumbers.{keep_same_stops}
 use Rattle.hp_explore.specs.Aims.{AimValue, IsDone, IsLawful}
 use Rattle.hp_explore.specs.Beside.{IsBesideAt, IsCallDone, IsPlaceDoneAt, IsPlacedAt, calls_by, first_at, order_by}
+use Rattle.hp_explore.specs.DonePlaces.{IsDoneKey}
+use Rattle.hp_explore.specs.PathKeys.{ArePathKeys}
 use Rattle.hp_explore.specs.Paths.{IsBack, PathValue}
 use Rattle.hp_explore.specs.Withins.{aim_within, within_lawful}
 use Rattle.hp_explore.specs.Visited.{AreFollowed}
@@ -19,6 +21,7 @@ use Rattle.hp_explore.specs.declared.visited.Visited.{Visited}
 use Rattle.hp_explore.proofs.Besides.{call_made, calls_longer, on_itself, on_longer, place_done, tried_next, turn_for}
 use Rattle.hp_explore.proofs.FindRooms.{room_back}
 use Rattle.hp_explore.proofs.Framing.{longer_schedule}
+use Rattle.hp_explore.proofs.PathKeysKept.{key_done, keys_shorter}
 use Rattle.hp_explore.proofs.Visits.{stops_kept, visited_shorter}
 
 -- ---- the order
@@ -115,22 +118,20 @@ tried_asked {g} {h} {wanted} {asked} {budget} processors seed {news} {schedule} 
     (lawful_here g h asked same) played
     (not_sought g h wanted asked budget schedule s same lines none is missed) all here
 
--- the other threads were told of it
-pub told_at : (g : Setting) (aim : AimValue) (order : ℕ → ℕ → ℕ) (processors : ℕ) (news : List Record)
-    (schedule numbers : List ℕ) (old new : Visited)
-    → IsPlaceDoneAt g aim order processors news schedule numbers old
-    → new.is_on ≡ old.is_on → new.stops ≡ old.stops → new.keys ≡ old.keys → AreFollowed g news new
-    → IsPlaceDoneAt g aim order processors news schedule numbers new
-told_at g aim order processors news schedule numbers old new at on stops keys way = record {
-  placed = moved g aim order processors news schedule numbers old new at.placed on keep way;
-  visited = stops_kept g aim schedule old new on keys keep at.visited;
-  done = at.done;
-}
-  where
-    keep : KeepStops old.stops new.stops
-    keep =
-        keep_same_stops old.stops new.stops
-        (ap (λ (x : StopsValue). x.codes) stops, ap (λ (x : StopsValue). x.lists) stops)
+-- its key, in the words of the question
+pub key_asked : {g h : Setting} {aim : AimValue} {order : ℕ → ℕ → ℕ} {processors : ℕ} {news : List Record}
+    {schedule numbers : List ℕ} {v : Visited} (keys : List (Option (List ℕ))) (calls : ℕ) (key : List ℕ)
+    → g ≡ h → plays g (schedule_of news) ≡ Some news → aim.admits schedule → calls ≡ length schedule
+    → IsPlaceDoneAt g aim order processors news schedule numbers v → ArePathKeys g aim news keys
+    → get_or keys calls None ≡ Some key → IsDoneKey h aim key
+key_asked {g} {h} {aim} {order} {processors} {news} {schedule} {numbers} {v} keys calls key same played
+    admitted long at are kept =
+    subst (λ (x : Setting). IsDoneKey x aim key) same
+    (key_done g aim news calls key keys
+    (long
+    ∙ (ap (λ (s : List ℕ). length s) at.placed.schedule_is ∙ length-map news (λ (r : Record). r.cpu)))
+    played (subst aim.admits at.placed.schedule_is admitted)
+    (subst (IsDone g aim) at.placed.schedule_is at.done) are kept)
 
 -- ---- back
 
@@ -189,10 +190,25 @@ gone_back p q aim order processors shorter numbers last number old new at r is o
               (keep_same_stops old.stops new.stops stops) here.visited);
         }
 
+-- the keys of the path are those of the shorter one
+keys_back : (p q : PathValue) (aim : AimValue) (schedule : List ℕ) (calls : ℕ)
+    (keys left : List (Option (List ℕ)))
+    → (r : Record) → p ≡ record { setting = q.setting; news = q.news ++ r ∷ [] }
+    → schedule ≡ schedule_of p.news → calls ≡ length schedule → get_or left calls None ≡ None
+    → ((at : ℕ) → (at ≡ calls → ⊥) → get_or left at None ≡ get_or keys at None)
+    → ArePathKeys p.setting aim p.news keys → ArePathKeys q.setting aim q.news left
+keys_back p q aim schedule calls keys left r is led long none others are =
+    keys_shorter q.setting aim q.news r calls keys left
+    (long
+    ∙ (ap (λ (s : List ℕ). length s) led
+    ∙ (length-map p.news (λ (x : Record). x.cpu)
+    ∙ (ap (λ (x : PathValue). length x.news) is ∙ length_push q.news r))))
+    none others (subst (λ (x : PathValue). ArePathKeys x.setting aim x.news keys) is are)
+
 -- whatever the path and the schedule give back
 pub gone_up : (p q : PathValue) (aim : AimValue) (order : ℕ → ℕ → ℕ) (processors : ℕ)
-    (schedule rest numbers : List ℕ) (number : ℕ) (latest back : Option ℕ) (many few : ℕ)
-    (old new : Visited)
+    (schedule rest numbers : List ℕ) (number : ℕ) (latest back : Option ℕ) (many few calls : ℕ)
+    (keys left : List (Option (List ℕ))) (old new : Visited)
     → IsPlaceDoneAt p.setting aim order processors p.news schedule (numbers ++ number ∷ []) old
     → IsBack p back q
     → schedule ≡ rest ++ option_to_list latest
@@ -200,10 +216,12 @@ pub gone_up : (p q : PathValue) (aim : AimValue) (order : ℕ → ℕ → ℕ) (
     → new.is_on ≡ old.is_on → new.keys ≡ old.keys → AreSameStops old.stops new.stops
     → ((g : Setting) (news : List Record) (r : Record) → AreFollowed g (news ++ r ∷ []) old
     → AreFollowed g news new)
-    → IsBesideAt q.setting aim order processors q.news rest numbers (number + 1) new
-    × (q.setting ≡ p.setting)
-gone_up p q aim order processors schedule rest numbers number latest back many few old new at went is cases
-    counted on keys stops way = by_latest latest is cases
+    → ArePathKeys p.setting aim p.news keys → calls ≡ length schedule → get_or left calls None ≡ None
+    → ((at : ℕ) → (at ≡ calls → ⊥) → get_or left at None ≡ get_or keys at None)
+    → (IsBesideAt q.setting aim order processors q.news rest numbers (number + 1) new
+    × ArePathKeys q.setting aim q.news left) × (q.setting ≡ p.setting)
+gone_up p q aim order processors schedule rest numbers number latest back many few calls keys left old new
+    at went is cases counted on same_keys stops way are long none others = by_latest latest is cases
   where
     longer : length schedule ≡ length (calls_by order numbers) + 1
     longer =
@@ -211,28 +229,31 @@ gone_up p q aim order processors schedule rest numbers number latest back many f
         ∙ length_push (calls_by order numbers) (order (length numbers) number)
 
     by_back : (last : ℕ) → schedule ≡ rest ++ last ∷ [] → (o : Option ℕ) → IsBack p o q
-        → IsBesideAt q.setting aim order processors q.news rest numbers (number + 1) new
-        × (q.setting ≡ p.setting)
-    by_back last same None none =
+        → (IsBesideAt q.setting aim order processors q.news rest numbers (number + 1) new
+        × ArePathKeys q.setting aim q.news left) × (q.setting ≡ p.setting)
+    by_back last same None nothing =
         absurd (omega (
           arith,
           longer,
           ap (λ (s : List ℕ). length s)
-              (at.placed.schedule_is ∙ ap (λ (h : List Record). schedule_of h) none.0),
+              (at.placed.schedule_is ∙ ap (λ (h : List Record). schedule_of h) nothing.0),
         ))
     by_back last same (Some cpu) taken = (
-      gone_back p q aim order processors rest numbers last number old new
-          (subst (λ (s : List ℕ). IsPlaceDoneAt p.setting aim order processors p.news s
-          (numbers ++ number ∷ []) old) same at)
-          taken.0 taken.2 on keys stops way,
+      (
+        gone_back p q aim order processors rest numbers last number old new
+            (subst (λ (s : List ℕ). IsPlaceDoneAt p.setting aim order processors p.news s
+            (numbers ++ number ∷ []) old) same at)
+            taken.0 taken.2 on same_keys stops way,
+        keys_back p q aim schedule calls keys left taken.0 taken.2 at.placed.schedule_is long none others are,
+      ),
       sym (ap (λ (x : PathValue). x.setting) taken.2),
     )
 
     by_latest : (l : Option ℕ) → schedule ≡ rest ++ option_to_list l
         → MatchOption l ((many ≡ 0) × (few ≡ 0)) (λ _. few + 1 ≡ many)
-        → IsBesideAt q.setting aim order processors q.news rest numbers (number + 1) new
-        × (q.setting ≡ p.setting)
-    by_latest None same none = absurd (omega (arith, none.0, counted, longer))
+        → (IsBesideAt q.setting aim order processors q.news rest numbers (number + 1) new
+        × ArePathKeys q.setting aim q.news left) × (q.setting ≡ p.setting)
+    by_latest None same empty = absurd (omega (arith, empty.0, counted, longer))
     by_latest (Some last) same some = by_back last same back went
 
 -- at the beginning of the scripts all is done

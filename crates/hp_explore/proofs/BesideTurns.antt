@@ -1,5 +1,5 @@
 -- The steps of one thread's walk.
-use Rattle.std.proofs.Common.{◌≡◌, ℕ, suc, ◌+◌, ◌<◌, ◌≤◌, true, false, List, [], ◌∷◌, ◌++◌, length, Some, None, refl, ap, sym, subst, ◌∙◌, arith, inl, inr}
+use Rattle.std.proofs.Common.{◌≡◌, ℕ, suc, ◌+◌, ◌<◌, ◌≤◌, true, false, List, [], ◌∷◌, ◌++◌, length, Option, Some, None, refl, ap, sym, subst, ◌∙◌, arith, inl, inr}
 use Rattle.std.proofs.lemmas.List.{length-append, length-map, length_push, same_from_push}
 use Rattle.hp_units.specs.History.{effect_of}
 use Rattle.hp_units.specs.declared.replies.Record.{Record}
@@ -18,6 +18,7 @@ use Rattle.hp_explore.specs.declared.beside.Beside.{Beside}
 use Rattle.hp_explore.specs.declared.beside.Pace.{Pace}
 use Rattle.hp_explore.specs.declared.beside.Pace.TheVariants.{On, Stopped, Over}
 use Rattle.hp_explore.specs.LookedUp.{IsLookedUpBeside}
+use Rattle.hp_explore.specs.PathKeys.{ArePathKeys}
 use Rattle.hp_explore.specs.Paths.{IsForth, PathValue}
 use Rattle.hp_explore.specs.Searches.{AreAdmitted, room_of}
 use Rattle.hp_explore.specs.Visited.{AreFollowed, AreVisited, IsKept}
@@ -28,6 +29,7 @@ use Rattle.hp_explore.proofs.FindRooms.{room_none, room_push}
 use Rattle.hp_explore.proofs.FindTurns.{left_down, left_past}
 use Rattle.hp_explore.proofs.Framing.{longer_schedule}
 use Rattle.hp_explore.proofs.LookedUps.{told_is_done}
+use Rattle.hp_explore.proofs.PathKeysKept.{keys_longer}
 use Rattle.hp_explore.proofs.Visits.{known_done, stops_kept, visited_longer, visited_more, visited_none}
 use Rattle.hp_explore.proofs.Walked.{room_after}
 use Rattle.hp_explore.proofs.BesideBacks.{moved}
@@ -113,6 +115,13 @@ room_down p q aim order processors schedule numbers next cpu v here forth =
     let calls : length schedule ≡ length numbers =
     ap (λ (s : List ℕ). length s) here.placed.numbers_are ∙ length_from order 0 numbers in
     omega (arith, calls, room_for p schedule here.placed.schedule_is forth.2)
+
+-- the keys of the path are those of the longer one
+pub keys_forth : (p q : PathValue) (aim : AimValue) (cpu : ℕ) (keys : List (Option (List ℕ)))
+    → IsForth p cpu true q → ArePathKeys p.setting aim p.news keys → ArePathKeys q.setting aim q.news keys
+keys_forth p q aim cpu keys forth are =
+    subst (λ (x : PathValue). ArePathKeys x.setting aim x.news keys) (sym forth.3)
+    (keys_longer p.setting aim p.news (record_of_call p.setting p.news cpu forth.0) keys are)
 
 -- the walk comes to a place
 pub comes : (p q : PathValue) (aim : AimValue) (order : ℕ → ℕ → ℕ) (processors : ℕ)
@@ -263,22 +272,24 @@ not_found g aim order processors news schedule numbers old new played here on ke
 
 -- the call could not be made
 pub over_on : (p q : PathValue) (aim : AimValue) (order : ℕ → ℕ → ℕ) (processors : ℕ)
-    (schedule s numbers ns : List ℕ) (next : ℕ) (v : Visited)
+    (schedule s numbers ns : List ℕ) (next : ℕ) (v : Visited) (keys : List (Option (List ℕ)))
     → q ≡ p → s ≡ schedule → ns ≡ numbers → next < length p.setting.scripts
     → IsBesideAt p.setting aim order processors p.news schedule numbers (next + 1) v
-    → (IsBesideAt q.setting aim order processors q.news s ns (next + 1) v × (q.setting ≡ p.setting))
+    → ArePathKeys p.setting aim p.news keys
+    → ((IsBesideAt q.setting aim order processors q.news s ns (next + 1) v
+    × ArePathKeys q.setting aim q.news keys) × (q.setting ≡ p.setting))
     × (steps_at q.setting ns (next + 1) < steps_at p.setting numbers next)
-over_on p q aim order processors schedule s numbers ns next v same is are less here =
-    subst (λ (x : PathValue). (IsBesideAt x.setting aim order processors x.news s ns (next + 1) v
-    × (x.setting ≡ p.setting)) × (steps_at x.setting ns (next + 1) < steps_at p.setting numbers next))
-    (sym same)
-    (subst (λ (t : List ℕ). (IsBesideAt p.setting aim order processors p.news t ns (next + 1) v
-    × (p.setting ≡ p.setting)) × (steps_at p.setting ns (next + 1) < steps_at p.setting numbers next))
-    (sym is)
-    (subst (λ (t : List ℕ). (IsBesideAt p.setting aim order processors p.news schedule t (next + 1) v
-    × (p.setting ≡ p.setting)) × (steps_at p.setting t (next + 1) < steps_at p.setting numbers next))
-    (sym are)
-    ((here, refl), left_past (length p.setting.scripts) (room_of p.setting) numbers next less)))
+over_on p q aim order processors schedule s numbers ns next v keys same is are less here kept =
+    subst (λ (x : PathValue). ((IsBesideAt x.setting aim order processors x.news s ns (next + 1) v
+    × ArePathKeys x.setting aim x.news keys) × (x.setting ≡ p.setting))
+    × (steps_at x.setting ns (next + 1) < steps_at p.setting numbers next)) (sym same)
+    (subst (λ (t : List ℕ). ((IsBesideAt p.setting aim order processors p.news t ns (next + 1) v
+    × ArePathKeys p.setting aim p.news keys) × (p.setting ≡ p.setting))
+    × (steps_at p.setting ns (next + 1) < steps_at p.setting numbers next)) (sym is)
+    (subst (λ (t : List ℕ). ((IsBesideAt p.setting aim order processors p.news schedule t (next + 1) v
+    × ArePathKeys p.setting aim p.news keys) × (p.setting ≡ p.setting))
+    × (steps_at p.setting t (next + 1) < steps_at p.setting numbers next)) (sym are)
+    (((here, kept), refl), left_past (length p.setting.scripts) (room_of p.setting) numbers next less)))
 
 -- the call was made, and the walk came to a place
 pub came_on : (aim : AimValue) (v u w : Beside) (pace : Pace)

@@ -50,18 +50,3 @@ pub found_here : (g h : Setting) (aim : AimValue) (news : List Record) (old new 
 found_here g h aim news old new found known same is looked =
     subst (λ (x : Setting). IsLookedUpBeside x aim news old new known) (sym same)
     (subst (IsLookedUpBeside h aim news old new) is looked)
-
--- the key of a place that is done
-pub done_key : (g : Setting) (aim : AimValue) (stops : StopsValue) (news : List Record)
-    (numbers key schedule : List ℕ)
-    → plays g (schedule_of news) ≡ Some news → aim.admits (schedule_of news)
-    → KeepNumbers ([] ∷ []) stops.lists → slice_get numbers 0 ≡ Some 0
-    → IsWritten g aim stops news numbers key → schedule ≡ schedule_of news → IsDone g aim schedule
-    → IsDoneKey g aim key
-done_key g aim stops news numbers key schedule played admitted base zero is led done = record {
-  news = news;
-  played = played;
-  admitted = admitted;
-  key_is = common g aim stops news numbers key base zero is;
-  done = subst (IsDone g aim) led done;
-}

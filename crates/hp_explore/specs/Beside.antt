@@ -8,6 +8,7 @@ use Rattle.hp_schedules.specs.Schedules.{Setting, schedule_of}
 use Rattle.hp_states.specs.Interned.{KeepNumbers}
 use Rattle.hp_states.specs.Rooms.{HasNoRoom}
 use Rattle.hp_explore.specs.Aims.{AimValue, IsDone, NoneFrom}
+use Rattle.hp_explore.specs.PathKeys.{ArePathKeys}
 use Rattle.hp_explore.specs.Reaching.{HasRoomAlong}
 use Rattle.hp_explore.specs.Searches.{AreAdmitted, room_of, turns_left}
 use Rattle.hp_explore.specs.Visited.{AreFollowed, AreVisited}
@@ -92,6 +93,10 @@ IsPlaced aim w =
     IsPlacedAt w.path.setting aim (order_of w) w.processors w.path.news w.schedule.items w.numbers.items
     w.visited
 
+-- the walk has the keys of places on its path
+abbrev pub HasPathKeys : AimValue → Beside → Type 0
+HasPathKeys aim w = ArePathKeys w.path.setting aim w.path.news w.keys
+
 -- the walk is at an admitted place, and tries the call with the number `next` there next
 pub record IsBesideAt (g : Setting) (aim : AimValue) (order : ℕ → ℕ → ℕ) (processors : ℕ)
     (news : List Record) (schedule numbers : List ℕ) (next : ℕ) (v : Visited) : Type 0 where
@@ -105,6 +110,7 @@ abbrev pub IsBeside : AimValue → Beside → Type 0
 IsBeside aim w =
     IsBesideAt w.path.setting aim (order_of w) w.processors w.path.news w.schedule.items w.numbers.items
     w.next w.visited
+    × HasPathKeys aim w
 
 -- the walk has just come to an admitted place, by the call with number `number`
 pub record IsComingAt (g : Setting) (aim : AimValue) (order : ℕ → ℕ → ℕ) (processors : ℕ)
@@ -120,6 +126,7 @@ abbrev pub IsComing : AimValue → Beside → Type 0
 IsComing aim w =
     IsComingAt w.path.setting aim (order_of w) w.processors w.path.news w.schedule.items w.numbers.items
     w.visited
+    × HasPathKeys aim w
 
 -- the place at which the walk is is done
 pub record IsPlaceDoneAt (g : Setting) (aim : AimValue) (order : ℕ → ℕ → ℕ) (processors : ℕ)
@@ -132,6 +139,7 @@ abbrev pub IsPlaceDone : AimValue → Beside → Type 0
 IsPlaceDone aim w =
     IsPlaceDoneAt w.path.setting aim (order_of w) w.processors w.path.news w.schedule.items
     w.numbers.items w.visited
+    × HasPathKeys aim w
 
 -- a bound on the number of steps left to the walk
 abbrev pub steps_of : Beside → ℕ

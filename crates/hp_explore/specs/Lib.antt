@@ -10,6 +10,7 @@ pub mod Frames
 pub mod Fronts
 pub mod LatestOps
 pub mod LookedUp
+pub mod PathKeys
 pub mod Paths
 pub mod Reaching
 pub mod Searches

@@ -8,6 +8,7 @@ ghost use Rattle.hp_explore.specs.Withins.{aim_within};
 
 use crate::aim::Aim;
 use crate::done_places::{DonePlaces, Question};
+use crate::path_keys::PathKeys;
 use crate::turns::latest;
 use crate::visited::Visited;
 use crate::within::Within;
@@ -41,6 +42,7 @@ pub(crate) struct Beside<'a> {
     numbers: Vec<u32>,
     next: u32,
     visited: Visited,
+    keys: PathKeys,
     processors: u32,
     seed: u64,
 }
@@ -54,6 +56,7 @@ impl<'a> Drop for Beside<'a> {
             numbers: _,
             next: _,
             visited: _visited,
+            keys: _keys,
             processors: _,
             seed: _,
         } = self;
@@ -85,6 +88,7 @@ impl<'a> Beside<'a> {
             numbers: Vec::new(alloc),
             next: 0,
             visited,
+            keys: PathKeys::new(alloc),
             processors,
             seed,
         })
@@ -140,14 +144,7 @@ impl<'a> Beside<'a> {
         if aim_here.is_met(alloc, &self.path, self.schedule.as_slice(), self.processors)? {
             return Ok(Pace::Stopped);
         }
-        if !self.visited.tell_done(
-            rt,
-            &self.path,
-            self.schedule.as_slice(),
-            self.processors,
-            aim,
-            done,
-        )? {
+        if !self.keys.tell_done(rt, self.schedule.len(), done)? {
             return Ok(Pace::Stopped);
         }
         Ok(self.up::<Q>())
@@ -211,6 +208,7 @@ impl<'a> Beside<'a> {
             self.processors,
             aim,
             done,
+            &mut self.keys,
         )? {
             return Ok(self.up::<Q>());
         }
@@ -226,6 +224,7 @@ impl<'a> Beside<'a> {
         requires done { IsPlaceDone (aim_within Q.setting Q.wanted None) self.old }
         ensures { IsBackFrom (aim_within Q.setting Q.wanted None) self.old self.new result }
     {
+        self.keys.forget(self.schedule.len());
         match self.numbers.pop() {
             Some(number) => {
                 let _cpu = self.path.back();

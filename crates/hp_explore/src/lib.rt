@@ -36,6 +36,7 @@ mod jobs;
 mod latest_ops;
 mod over;
 mod path;
+mod path_keys;
 mod playing;
 mod rooms;
 mod searching;

@@ -11,14 +11,15 @@ ghost use Rattle.hp_explore.specs.Settings.{setting};
 ghost use Rattle.hp_explore.specs.Aims.{AreSteered};
 ghost use Rattle.hp_explore.specs.Visited.{AreFollowed, ArePlaceNumbers, IsLookedUp, IsWritten};
 ghost use Rattle.hp_explore.specs.LookedUp.{IsLookedUpBeside};
+ghost use Rattle.hp_explore.specs.PathKeys.{ArePathKeys};
 ghost use Rattle.hp_explore.specs.Withins.{aim_within};
-ghost use Rattle.hp_explore.specs.Aims.{IsDone};
 ghost use Rattle.hp_states.specs.Interned.{KeepNumbers};
 
 use crate::aim::Aim;
 use crate::done_places::{DonePlaces, Question};
 use crate::latest_ops::LatestOps;
 use crate::path::Path;
+use crate::path_keys::PathKeys;
 use crate::walk::keeps_places;
 use crate::within::Within;
 use hp_machine::Machine;
@@ -33,7 +34,8 @@ use std::sync::Wait;
 /// Two places with the same key continue alike: with the same calls, and the aim seeks the same
 /// continuations. So only one of them is tried. In keys, an operation in `latest` that is above
 /// `fixed` has a number that depends only on its processor, since it does not matter when it began.
-/// `numbers` and `key` are what was written last. If `is_on` is false, no place is ever kept.
+/// `numbers` is what was written last, and so is `key`, unless `PathKeys` has it. If `is_on` is
+/// false, no place is ever kept.
 pub(crate) struct Visited {
     is_on: bool,
     fixed: Serial,
@@ -162,7 +164,7 @@ impl Visited {
     }
 
     /// Returns whether the place is done: a thread has told this of a place with the same key, or
-    /// it was visited. If not, keeps the key, unless it means the same in each thread.
+    /// it was visited. If not, keeps the key: in `on_path`, if it means the same in each thread.
     pub(crate) fn look_up_beside<Q: Question, R: Wait>(
         &mut self,
         rt: &R,
@@ -172,6 +174,7 @@ impl Visited {
         processors: u32,
         aim: &Within<'_>,
         done: &DonePlaces<Q>,
+        on_path: &mut PathKeys,
     ) -> Result<bool, AllocError>
         requires processors { processors ≡ length path.now.setting.scripts }
         requires schedule { schedule.now ≡ schedule_of path.now.news }
@@ -179,11 +182,15 @@ impl Visited {
         requires aim { (aim.now.wanted.now ≡ Q.wanted) × (aim.now.budget ≡ None) }
         requires way { AreFollowed path.now.setting path.now.news self.old }
         requires base { KeepNumbers ([] ∷ []) self.old.stops.lists }
+        requires on_path { ArePathKeys Q.setting (aim_within Q.setting Q.wanted None) path.now.news
+            on_path.old }
         ensures on { OnOk result (self.new.is_on ≡ self.old.is_on) }
         ensures kept { OnOk result (KeepStops self.old.stops self.new.stops) }
         ensures way { OnOk result (AreFollowed path.now.setting path.now.news self.new) }
         ensures ok { IfOk result (IsLookedUpBeside Q.setting (aim_within Q.setting Q.wanted None)
             path.now.news self.old self.new) }
+        ensures on_path { OnOk result (ArePathKeys Q.setting (aim_within Q.setting Q.wanted None)
+            path.now.news on_path.new) }
     {
         if !self.is_on {
             return Ok(false);
@@ -195,46 +202,12 @@ impl Visited {
             if done.has(rt, &self.key) {
                 return Ok(true);
             }
+            on_path.keep(alloc, schedule.len(), &mut self.key)?;
         } else if self.keys.find_or_add(&self.key)? {
             return Ok(true);
         }
         self.number_before_begin(alloc, path)?;
         Ok(false)
-    }
-
-    /// Tells the other threads that the place is done, if its key means the same in each thread.
-    /// Returns false if they have no memory left for that.
-    pub(crate) fn tell_done<Q: Question, R: Wait>(
-        &mut self,
-        rt: &R,
-        path: &Path<'_>,
-        schedule: &[Cpu],
-        processors: u32,
-        aim: &Within<'_>,
-        done: &DonePlaces<Q>,
-    ) -> Result<bool, AllocError>
-        requires processors { processors ≡ length path.now.setting.scripts }
-        requires schedule { schedule.now ≡ schedule_of path.now.news }
-        requires setting { path.now.setting ≡ Q.setting }
-        requires aim { (aim.now.wanted.now ≡ Q.wanted) × (aim.now.budget ≡ None) }
-        requires way { AreFollowed path.now.setting path.now.news self.old }
-        requires base { KeepNumbers ([] ∷ []) self.old.stops.lists }
-        requires done { IsDone Q.setting (aim_within Q.setting Q.wanted None) schedule.now }
-        ensures same { (self.new.is_on ≡ self.old.is_on) × (self.new.stops ≡ self.old.stops)
-            × (self.new.keys ≡ self.old.keys) }
-        ensures way { AreFollowed path.now.setting path.now.news self.new }
-    {
-        if !self.is_on {
-            return Ok(true);
-        }
-        path.is_played();
-        if !self.write_key(path, schedule, processors, aim)? {
-            return Ok(true);
-        }
-        if !self.is_common() {
-            return Ok(true);
-        }
-        done.add(rt, &self.key)
     }
 
     /// Writes the key of the place, and returns whether it has one. A place has none if it is

@@ -1,0 +1,81 @@
+-- The keys of the places on a walk's path, as it goes on and back.
+use Rattle.std.proofs.Common.{◌≡◌, ℕ, ◌+◌, ◌≤◌, List, [], ◌∷◌, ◌++◌, length, Option, None, Some, get_or, take, ap, sym, subst, ◌∙◌, arith, inl, inr}
+use Rattle.std.proofs.lemmas.Bool.{cases_eq}
+use Rattle.std.proofs.lemmas.List.{length_push, take-append-le, take_all}
+use Rattle.std.proofs.lemmas.Option.{none-some, same_Some}
+use Rattle.hp_units.specs.declared.replies.Record.{Record}
+use Rattle.hp_schedules.specs.Schedules.{Setting, plays, schedule_of}
+use Rattle.hp_explore.specs.Aims.{AimValue, IsDone}
+use Rattle.hp_explore.specs.DonePlaces.{IsDoneKey}
+use Rattle.hp_explore.specs.PathKeys.{ArePathKeys}
+use Rattle.hp_explore.specs.Visited.{IsPlaceKey, no_stops}
+
+-- none is kept
+pub keys_none : (g : Setting) (aim : AimValue) (news : List Record) (keys : List (Option (List ℕ)))
+    → ((calls : ℕ) → get_or keys calls None ≡ None) → ArePathKeys g aim news keys
+keys_none g aim news keys none calls key here = absurd (none-some key (sym (none calls) ∙ here))
+
+-- the path gets longer
+pub keys_longer : (g : Setting) (aim : AimValue) (news : List Record) (r : Record)
+    (keys : List (Option (List ℕ)))
+    → ArePathKeys g aim news keys → ArePathKeys g aim (news ++ r ∷ []) keys
+keys_longer g aim news r keys are calls key here =
+    let was = are calls key here in (
+      omega (arith, was.0, length_push news r),
+      subst (λ (h : List Record). IsPlaceKey g aim no_stops h key)
+          (sym (take-append-le calls news (r ∷ []) was.0)) was.1,
+    )
+
+-- the path gets shorter, and the key of the place that is left is forgotten
+pub keys_shorter : (g : Setting) (aim : AimValue) (news : List Record) (r : Record) (calls : ℕ)
+    (old new : List (Option (List ℕ)))
+    → calls ≡ length news + 1 → get_or new calls None ≡ None
+    → ((at : ℕ) → (at ≡ calls → ⊥) → get_or new at None ≡ get_or old at None)
+    → ArePathKeys g aim (news ++ r ∷ []) old → ArePathKeys g aim news new
+keys_shorter g aim news r calls old new here none others are at key kept = elim (cases_eq at calls) [
+  | inl same ↦
+      absurd (none-some key (sym none ∙ (ap (λ (i : ℕ). get_or new i None) (sym same) ∙ kept)))
+  | inr other ↦ before other
+]
+  where
+    before : (at ≡ calls → ⊥) → (at ≤ length news) × IsPlaceKey g aim no_stops (take at news) key
+    before other =
+        let was = are at key (sym (others at other) ∙ kept) in
+        let low : at ≤ length news = omega (arith, was.0, length_push news r, here, other) in (
+          low,
+          subst (λ (h : List Record). IsPlaceKey g aim no_stops h key)
+              (take-append-le at news (r ∷ []) low) was.1,
+        )
+
+-- a key is kept for the place at which the walk is
+pub key_here : (g : Setting) (aim : AimValue) (news : List Record) (calls : ℕ) (key : List ℕ)
+    (old new : List (Option (List ℕ)))
+    → calls ≡ length news → get_or new calls None ≡ Some key
+    → ((at : ℕ) → (at ≡ calls → ⊥) → get_or new at None ≡ get_or old at None)
+    → IsPlaceKey g aim no_stops news key → ArePathKeys g aim news old → ArePathKeys g aim news new
+key_here g aim news calls key old new here kept others is are at k there = elim (cases_eq at calls) [
+  | inl same ↦ (
+    omega (arith, same, here),
+    subst (λ (h : List Record). IsPlaceKey g aim no_stops h k)
+        (sym (take_all at news (omega (arith, same, here))))
+        (subst (IsPlaceKey g aim no_stops news)
+        (same_Some key k (sym kept ∙ (ap (λ (i : ℕ). get_or new i None) (sym same) ∙ there))) is),
+  )
+  | inr other ↦ are at k (sym (others at other) ∙ there)
+]
+
+-- the place at which the walk is is done
+pub key_done : (g : Setting) (aim : AimValue) (news : List Record) (calls : ℕ) (key : List ℕ)
+    (keys : List (Option (List ℕ)))
+    → calls ≡ length news → plays g (schedule_of news) ≡ Some news → aim.admits (schedule_of news)
+    → IsDone g aim (schedule_of news) → ArePathKeys g aim news keys → get_or keys calls None ≡ Some key
+    → IsDoneKey g aim key
+key_done g aim news calls key keys here played admitted done are kept = record {
+  news = news;
+  played = played;
+  admitted = admitted;
+  key_is =
+      subst (λ (h : List Record). IsPlaceKey g aim no_stops h key)
+      (take_all calls news (omega (arith, here))) (are calls key kept).1;
+  done = done;
+}
