@@ -832,6 +832,13 @@ def check_odd(checks, judge):
     is_right = status == 1 and said == ("hotplug_lab: line 2: the kernel's buffer was full, and events"
                                         " are missing\n")
     checks.holds("lost", is_right, f"{status} {out} {said}")
+    counts = "# tracer: nop\n# entries-in-buffer/entries-written: {}/12   #P:2\n" + event.format("0x1", 0)
+    status, out, said = judge.call(counts.format(12), *ftrace_options)
+    checks.holds("all kept", (status, said) == (0, ""), f"{status} {out} {said}")
+    status, out, said = judge.call(counts.format(5), *ftrace_options)
+    is_right = status == 1 and said == ("hotplug_lab: line 2: the kernel's buffer was full, and events"
+                                        " are missing\n")
+    checks.holds("overwritten", is_right, f"{status} {out} {said}")
     status, out, said = judge.call(event.format("zero", 0), *ftrace_options)
     is_right = status == 1 and said == "hotplug_lab: line 1: no frame or order that can be read\n"
     checks.holds("no frame", is_right, f"{status} {out} {said}")

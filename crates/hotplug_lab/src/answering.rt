@@ -10,7 +10,7 @@ use hp_questions::Wanted;
 use hp_schedules::ShardId;
 use hp_search::{
     EndsForm, FindResult, FindText, GroupBy, LabProgramFault, ScheduleForm, SearchText,
-    explore_text_with_jobs, find_text,
+    explore_text, find_text,
 };
 use hp_states::Watch;
 use std::alloc::Global;
@@ -75,7 +75,7 @@ fn explored<W: Watch>(
     ensures err { IfErr result (IsUnanswered (Explore asked form by jobs) input.now) }
 {
     let ExploreOptions { setup, limit } = asked;
-    let finding = explore_text_with_jobs(rt, alloc, input, setup, limit, form, by, jobs, watch)?;
+    let finding = explore_text(rt, alloc, input, setup, limit, form, by, jobs, watch)?;
     Ok(answer_with(finding, 0, 3))
 }
 

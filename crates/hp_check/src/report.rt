@@ -25,7 +25,8 @@ pub fn write_report(
     writeln!(out, "faults: {faults}, warnings: {warnings}")
 }
 
-/// Writes a finding.
+/// Writes a finding. `lines` has the line of the input in which each text of `calls` begins, as far
+/// as it is known.
 fn write_finding(out: &mut String, lines: &[u64], finding: &Finding) -> Result<(), AllocError> {
     match finding {
         Finding::NotJson { hint, line, column } => {

@@ -6,7 +6,7 @@ use crate::quotes::write_quoted;
 use hp_units::{number32, number64};
 use std::alloc::AllocError;
 
-/// The most letters of a name.
+/// The greatest number of characters in a name.
 const LONGEST: usize = 32;
 
 /// What a word of a line may be.

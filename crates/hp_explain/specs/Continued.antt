@@ -183,8 +183,9 @@ as_long g h k rest same =
       same.alike.same.calls,
     )
 
--- `h` goes on to `end`. From `k`, the continuation `rest` gives the same further records, except that
--- the numbers of operations may differ, and it is explained there
+-- `h` goes on to `end`. From `k`, the continuation `rest` gives the same further records, except
+-- that the numbers of operations may differ. The schedule of `k`, followed by `rest`, explains the
+-- observed answers
 record IsExplainedOn (g : Setting) (seen : List (List ObservedLine)) (rest : List ℕ) (h k : List Record)
     (alike : ContinueAlike g h k) (end : List Record) : Type 0 where
   pub on : ContinuesAs g (schedule_of k) rest h k alike end

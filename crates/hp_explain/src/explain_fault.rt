@@ -6,29 +6,19 @@ ghost use Rattle.hp_explain.specs.declared.explain_fault.ExplainFault.TheVariant
 use crate::answers_fault::AnswersFault;
 use hp_search::LabFault;
 use std::alloc::AllocError;
-use std::error::Error;
-use std::fmt;
+use thiserror::Error;
 
 /// Why a search for an order that explains the answers failed. `OutOfMemory` may come in place of
 /// any other.
-#[derive(Clone, Copy, Debug, PartialEq, Eq, Drop)]
+#[derive(Error, Clone, Copy, Debug, PartialEq, Eq, Drop)]
 pub enum ExplainFault {
     /// The scenario cannot be read or searched, or memory ran out.
+    #[error("{0}")]
     Lab(LabFault),
     /// The answers cannot be read.
+    #[error("{0}")]
     Answers(AnswersFault),
 }
-
-impl fmt::Display for ExplainFault {
-    fn fmt<W: fmt::Write>(&self, f: &mut fmt::Formatter<W>) -> fmt::Result {
-        match self {
-            ExplainFault::Lab(fault) => write!(f, "{fault}"),
-            ExplainFault::Answers(fault) => write!(f, "{fault}"),
-        }
-    }
-}
-
-impl Error for ExplainFault {}
 
 impl From<AllocError> for ExplainFault {
     ghost from_gives = { λ _ e. e ≡ Lab OutOfMemory };

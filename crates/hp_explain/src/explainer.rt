@@ -9,8 +9,8 @@ use hp_schedules::FinishedLine;
 use hp_units::Cpu;
 use std::alloc::{AllocError, Global};
 
-/// What was seen of a run, and the longest schedule so far that explains it as the beginning of an
-/// order. If several are equally long, it is the one that the search found first.
+/// What was seen of a run, and the longest schedule so far that explains what was seen up to its
+/// end. If several are equally long, it is the one that the search found first.
 #[derive(Drop)]
 pub(crate) struct Explainer<'a> {
     seen: &'a Observed,

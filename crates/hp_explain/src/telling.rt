@@ -1,9 +1,8 @@
 //! The order that explains answers, as text.
-ghost use Rattle.std.specs.Prelude.{◌≡◌, ◌++◌, ◌^◌, ◌<◌, ◌⊎◌, IfErr, IfOk, OnOk, length, option_map, string_bytes};
+ghost use Rattle.std.specs.Prelude.{◌≡◌, ◌^◌, ◌<◌, ◌⊎◌, IfErr, IfOk, length, string_bytes};
 ghost use Rattle.hp_explore.specs.declared.exploring.ExploreFault.TheVariants.{OutOfMemory};
 ghost use Rattle.hp_explore.specs.declared.fault.FindFault.TheVariants.{Stopped};
 ghost use Rattle.hp_explore.specs.FindFaults.{find_fault_from};
-ghost use Rattle.hp_search.specs.FoundTexts.{found_text, schedule_text};
 ghost use Rattle.hp_search.specs.Prepared.{before_of, names_of, setting_of};
 ghost use Rattle.hp_explain.specs.Explaining.{IsExplainCause};
 ghost use Rattle.hp_explain.specs.Telling.{IsExplainFaultOf, IsExplainedOn, IsExplainingOf, IsExplanationTold, unknown_told};
@@ -15,10 +14,9 @@ use crate::explaining::{Explanation, explain};
 use crate::observed::Observed;
 use crate::standing::{Standing, path_along, standings_of};
 use crate::unexplained::{write_unexplained, write_unexplained_object};
-use hp_explore::{ExploreFault, FindFault, Watch, changes_of};
-use hp_search::{Prepared, ScheduleForm, found_object, nearest_text, prepare};
-use hp_units::{Cpu, Record, Text};
-use indexmap::IndexSet;
+use hp_explore::{ExploreFault, FindFault, Watch};
+use hp_search::{Prepared, ScheduleForm, prepare, schedule_told};
+use hp_units::Cpu;
 use std::alloc::{AllocError, Global};
 
 /// How a search for an order that explains answers ended.
@@ -158,44 +156,6 @@ fn explanation_told(
                 result: ExplainResult::Unexplained,
             })
         }
-    }
-}
-
-/// Returns a schedule of the scripts and its calls as text in `form`. Replays the schedule.
-fn schedule_told(
-    alloc: Global,
-    prepared: &Prepared,
-    schedule: &[Cpu],
-    form: ScheduleForm,
-) -> Result<String, AllocError>
-    ensures { IfOk result (λ text. string_bytes text ≡ found_text form (names_of prepared.now)
-        (before_of prepared.now) (setting_of prepared.now) schedule.now) }
-{
-    // The search has made these calls, so only memory can run out.
-    let Ok(played) = prepared.played(alloc, schedule) else {
-        return Err(AllocError);
-    };
-    let text = text_of(alloc, prepared, schedule, prepared.calls_of(&played), form)?;
-    Ok(text)
-}
-
-/// Returns a schedule and its calls as text in `form`.
-fn text_of(
-    alloc: Global,
-    prepared: &Prepared,
-    schedule: &[Cpu],
-    calls: Option<&[Record]>,
-    form: ScheduleForm,
-) -> Result<String, AllocError>
-    ensures { IfOk result (λ text. string_bytes text
-        ≡ schedule_text form (names_of prepared.now) (before_of prepared.now)
-        (setting_of prepared.now).layout schedule.now (option_map (λ c. c.now) calls.entry)) }
-{
-    let names = &prepared.scenario.names;
-    match form {
-        ScheduleForm::Words => nearest_text(alloc, names, changes_of(schedule), calls),
-        ScheduleForm::Object => found_object(alloc, names, changes_of(schedule), calls),
-        ScheduleForm::Scenario => prepared.replay_of(alloc, calls),
     }
 }
 

@@ -19,9 +19,9 @@ use std::sync::Wait;
 use std::thread;
 use std::thread::Threads;
 
-/// Searches in `jobs` threads, and returns whether no schedule ends as wanted and the history has
-/// room for each call. Returns false if a thread found one that does, or if the threads had no
-/// memory left; then one thread is to search anew.
+/// Searches in `jobs` threads, and returns whether one of them came to the end of its search. Then
+/// no schedule ends as wanted, and the history has room for each call. If none did, for example
+/// because one found a schedule or because they had no memory left, one thread is to search anew.
 ///
 /// Half of the memory is for the places that the threads share, and each has an equal share of the
 /// other half. Returns false at once if `jobs` is below 2, or if places cannot be compared

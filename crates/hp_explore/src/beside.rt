@@ -238,8 +238,8 @@ impl<'a> Beside<'a> {
     }
 }
 
-/// Returns the processor that is tried first after `depth` calls: the seed itself, if it is that of a
-/// processor, and otherwise one that depends on the depth.
+/// Returns the processor that is tried first after `depth` calls: the seed itself if it is the
+/// number of a processor, and otherwise one that depends on the seed and the depth.
 fn first_at(processors: u32, seed: u64, depth: usize) -> u32
     requires { 0 < processors }
     ensures is { result ≡ first_at processors seed depth }
@@ -252,8 +252,8 @@ fn first_at(processors: u32, seed: u64, depth: usize) -> u32
     }
 }
 
-/// Returns the processor whose call is tried as number `number` at each place: `first` as number 0,
-/// then those above it, and then those below it, from processor 0 on.
+/// Returns the processor that is tried after `number` others at a place. The order is `first`, the
+/// processors above it, and then those below it, from processor 0 on.
 fn turn_of(processors: u32, first: u32, number: u32) -> u32
     requires first { first < processors }
     requires number { number < processors }

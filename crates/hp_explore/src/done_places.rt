@@ -71,7 +71,7 @@ impl<Q: Question> Part<Q> {
         }
     }
 
-    /// Returns whether the place is among these. If so, it is done.
+    /// Returns whether the place is found among these. If so, it is done.
     fn has(&self, place: &PlaceCode) -> bool
         ensures { result ≡ true
             → IsDoneKey Q.setting (aim_within Q.setting Q.wanted None) place.now }
@@ -125,7 +125,8 @@ impl<Q: Question> DonePlaces<Q> {
         })
     }
 
-    /// Returns whether a thread is done with the place.
+    /// Returns whether the place is found. If so, some thread is done with it. If not, one may be
+    /// done with it all the same: of several places with the same hash, only the newest is found.
     pub(crate) fn has(&self, rt: &impl Wait, place: &PlaceCode) -> bool
         ensures { result ≡ true
             → IsDoneKey Q.setting (aim_within Q.setting Q.wanted None) place.now }

@@ -23,15 +23,16 @@ use thiserror::Error;
 pub struct Exploration {
     /// The ends.
     pub ends: Vec<Ending>,
-    /// True if all complete schedules are counted. Otherwise only the first ones are, up to the
-    /// limit or to the point at which the watch ended the search.
+    /// True if all complete schedules are counted, or all those of the part that was searched.
+    /// Otherwise only the first ones are, up to the limit or to the point at which the watch ended
+    /// the search.
     pub is_whole: bool,
 }
 
 /// Why an exploration failed.
 #[derive(Error, Clone, Copy, Debug, PartialEq, Eq, Drop)]
 pub enum ExploreFault {
-    /// The layout's history has no room for a call of some schedule.
+    /// The layout's history has no room for a call of some schedule, or no serial is left for it.
     #[error("no room in the history for all calls of a schedule")]
     HistoryFull,
     /// Memory allocation failed.
@@ -72,8 +73,8 @@ impl From<CallFault> for ExploreFault {
 /// exactly the first `limit` schedules in that order are counted. The machine is not changed.
 ///
 /// `watch` gets the progress, and at each place decides whether the search goes on. Once it
-/// declines, the search stops before the next schedule that it would count. The schedules counted
-/// are then also the first ones in that order, and there are more.
+/// declines, the search stops before the next schedule that it would count, if there is one. The
+/// schedules counted are then also the first ones in that order.
 ///
 /// # Errors
 ///

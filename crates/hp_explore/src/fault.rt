@@ -6,7 +6,7 @@ use std::alloc::AllocError;
 /// Why a search has no result.
 #[derive(Clone, Copy, Debug, PartialEq, Eq, Drop)]
 pub enum FindFault {
-    /// The layout's history has no room for a call of some schedule.
+    /// The layout's history has no room for a call of some schedule, or no serial is left for it.
     HistoryFull,
     /// Memory allocation failed.
     OutOfMemory,

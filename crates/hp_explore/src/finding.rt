@@ -44,12 +44,13 @@ pub enum Found {
 /// number of changes. If none of these ends as wanted, it tries all, up to the first that does.
 /// Then it tries the schedules with fewer changes than that one. A pass skips a place that is
 /// equivalent to one that it has tried. It skips none if a script undoes steps by their serials, or
-/// works on the operation of its n-th Begin (`OwnWork::Nth`).
+/// works on the operation of its n-th Begin (`OwnWork::Nth`). A single thread then makes all steps.
 ///
 /// With several threads, each of them tries all schedules before the second step, in an order of
 /// its own, and skips a place that is equivalent to one with which some thread is done. If one of
-/// them comes to the end of its search, no schedule ends as wanted. If one finds a schedule, or if
-/// they take more than the memory that `watch` allows, a single thread makes the second step.
+/// them comes to the end of its search, no schedule ends as wanted. Otherwise a single thread makes
+/// the second step: for example, if one of them finds a schedule, or if they take more than the
+/// memory that `watch` allows.
 ///
 /// # Errors
 ///

@@ -46,8 +46,8 @@ impl Watch for PartWatch {
 ///
 /// Each thread searches one part with an equal share of the memory that `watch` allows, and the
 /// ends of all parts are merged. `watch` is then called once, with the total. One thread searches
-/// all schedules anew if a part fails, stops at the limit or takes more than its share, or if the
-/// merge fails or counts more than the limit.
+/// all schedules anew if memory runs out, if a part fails, stops at the limit or takes more than
+/// its share, or if the merge fails or counts more than the limit.
 ///
 /// A part may take nearly as long as the whole search if many places in different parts are
 /// equivalent, because each part explores them for itself.
@@ -99,7 +99,8 @@ pub fn explore_with_jobs<R: Threads + Sync, W: Watch>(
 }
 
 /// Returns the ends of all schedules, searched in `parts` parts. Returns `None` if they count more
-/// than the limit, if the schedules of a part were not all counted, or if the merge failed.
+/// than the limit, if the schedules of a part were not all counted, if memory ran out, or if the
+/// merge failed. Otherwise calls `watch` once, with the total.
 fn search_parts<R: Threads + Sync, W: Watch>(
     rt: &R,
     alloc: Global,
@@ -129,8 +130,8 @@ fn search_parts<R: Threads + Sync, W: Watch>(
     }
 }
 
-/// Returns the ends of each part, each searched in a thread of its own. Returns `None` if the
-/// schedules of a part were not all counted, or if memory or threads ran out.
+/// Returns the ends of each part, each searched in a thread of its own if one can be started.
+/// Returns `None` if the schedules of a part were not all counted, or if memory ran out.
 fn ends_of_parts<R: Threads + Sync>(
     rt: &R,
     alloc: Global,

@@ -8,7 +8,8 @@
 //!   that is equivalent to a visited one (`visited`). For this it renumbers operations, so that it
 //!   does not matter when they began (`latest_ops`),
 //! - a search by several threads for whether a schedule ends as wanted (`absent`, `beside`), which
-//!   share the places with which they are done (`done_places`),
+//!   share the places with which they are done (`done_places`). Each keeps the keys of the places on
+//!   its path (`path_keys`),
 //! - the merging of parts (`summing`, `jobs`).
 //!
 //! `finding` searches by rising number of changes of processor, as in CHESS (Musuvathi and Qadeer,

@@ -8,7 +8,6 @@ ghost use Rattle.hp_explore.specs.Adding.{AddsEnd, AddsEnds, AddsLists, AddsMore
 
 use crate::earlier::{keep_earlier, order_of};
 use hp_schedules::{Ending, Outcome, learn};
-use hp_units::Cpu;
 use indexmap::IndexMap;
 use std::alloc::{AllocError, Global};
 use std::cmp::Ordering;
@@ -121,7 +120,7 @@ impl Sums {
         ensures ok { OnOk result (AddsOther self.old end.now self.new) }
         ensures err { OnErr result (self.new ≡ self.old) }
     {
-        let copy = copy_of(alloc, end)?;
+        let copy = end.copy(alloc)?;
         self.ends.reserve(1)?;
         learn(&mut self.latest, digest, self.ends.len())?;
         self.ends.push_reserved(copy);
@@ -153,21 +152,6 @@ fn sorted(ends: Vec<Ending>) -> Vec<Ending>
         { order_of(end.first.as_slice(), other.first.as_slice()) },
     );
     sorted
-}
-
-/// Returns a copy of an end.
-fn copy_of(alloc: Global, end: &Ending) -> Result<Ending, AllocError>
-    ensures outcome { IfOk result (λ copy. copy.outcome ≡ end.now.outcome) }
-    ensures count { IfOk result (λ copy. copy.count ≡ end.now.count) }
-    ensures first { IfOk result (λ copy. copy.first.items ≡ end.now.first.items) }
-{
-    let outcome = end.outcome.copy(alloc)?;
-    let first: Vec<Cpu> = end.first.iter().copied().collect(alloc)?;
-    Ok(Ending {
-        outcome,
-        count: end.count,
-        first,
-    })
 }
 
 /// Returns the index of the end that has this outcome, if there is one.

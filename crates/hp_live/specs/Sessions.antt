@@ -16,8 +16,8 @@ use Rattle.hp_live.specs.declared.answers.Did.{Did}
 use Rattle.hp_live.specs.declared.session.Lack.{Lack}
 use Rattle.hp_live.specs.declared.session.Lack.TheVariants as lack
 
--- the owners' names, all lines so far with plain numbers, the bindings of names, and the machine after
--- the lines
+-- the owners' names, all lines so far with numbers in place of names for results, the bindings of
+-- names, and the machine after the lines
 pub record SessionValue : Type 0 where
   pub names : List (List ℕ)
   pub lines : List Line
@@ -98,7 +98,7 @@ abbrev pub took : Option Typed → (plain : List ℕ) → (more : List (List ℕ
 took None plain more = more
 took (Some t) plain more = plain ∷ more
 
--- the texts that are lines, with plain numbers
+-- the texts that can be read as lines, with numbers in place of names for results
 unfoldable pub taken : (s : SessionValue) → (texts : List (List ℕ)) → (written : List ℕ)
     → (new : SessionValue) → AnswersAll s texts written new → List (List ℕ)
 unfolding AnswersAll

@@ -6,12 +6,16 @@ use hp_numbers::{Block, Frame, Order};
 use hp_units::Zone;
 use memchr::memchr;
 
+/// The beginning of the comment with which Linux counts the events in its buffers and those that it
+/// wrote.
+const COUNTS: &[u8] = b"# entries-in-buffer/entries-written:";
+
 /// Reads a line of ftrace as an event.
 ///
 /// The page events are the kernel's `mm_page_alloc` and `mm_page_free`. Onlines and offlines are
 /// marks that a test writes into trace_marker around each write to a file of a memory block: `begin
 /// memory32/state offline`, then `end memory32/state offline ok`, or another word in place of `ok`.
-/// Every other line is `LogEvent::Other`, but a note that events are missing is a fault.
+/// Every other line is `LogEvent::Other`, but a line which says that events are missing is a fault.
 pub fn ftrace_event(line: &[u8]) -> Result<LogEvent, LineFault> {
     match traced(line) {
         Some((b"mm_page_alloc", fields)) => alloc_event(fields),
@@ -54,12 +58,31 @@ fn without_spaces(text: &[u8]) -> &[u8] {
     }
 }
 
-/// Reads a line that no processor wrote: a comment, or a note that events are missing.
+/// Reads a line that no processor wrote: a comment or a note. It may say that events are missing.
 fn untraced_event(line: &[u8]) -> Result<LogEvent, LineFault> {
-    if line.starts_with(b"CPU:") && line.ends_with(b"]") {
+    let is_note = line.starts_with(b"CPU:") && line.ends_with(b"]");
+    if is_note || is_overwritten(line) {
         return Err(LineFault::EventsLost);
     }
     Ok(LogEvent::Other)
+}
+
+/// Returns whether the line is the comment with which Linux counts the events in its buffers and
+/// those that it wrote, and the counts differ: it overwrote the oldest events.
+fn is_overwritten(line: &[u8]) -> bool {
+    let Some(counts) = line.strip_prefix(COUNTS) else {
+        return false;
+    };
+    let Ok(text) = str::from_utf8(counts) else {
+        return false;
+    };
+    let Some(counts) = text.split_whitespace().next() else {
+        return false;
+    };
+    match counts.split_once('/') {
+        Some((kept, written)) => kept != written,
+        None => false,
+    }
 }
 
 /// The fields of a page event.

@@ -38,7 +38,7 @@ pub fn run_line(alloc: Global, machine: &mut Machine, line: &Line) -> Result<u64
 }
 
 /// Calls the machine with an event, and returns the number of its result. A full history is no
-/// error: the event leaves no record.
+/// error: the event then leaves no record, and the number is that of `missing_number`.
 fn run_event(
     alloc: Global,
     machine: &mut Machine,

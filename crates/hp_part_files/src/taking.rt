@@ -179,7 +179,7 @@ fn outcome_of(
     }
 }
 
-/// Adds an end to the last part, if `text` is the line of that end.
+/// Adds an end to the last part. Fails with `Changed` if `text` is not the line of that end.
 fn push_end(
     alloc: Global,
     prepared: &Prepared,

@@ -21,7 +21,7 @@ pub fn same_plan_ends(all: &[PlanEnds], others: &[PlanEnds]) -> bool
     true
 }
 
-/// Returns whether both lists hold the same ends.
+/// Returns whether both lists hold equal ends in the same order.
 fn same_ends(ends: &[OpEnd], others: &[OpEnd]) -> bool
     ensures { IsTrue result ↔ (ends.now ≡ others.now) }
 {

@@ -152,7 +152,8 @@ fn any_answer(word: &str, args: &[&str]) -> Option<EndLine>
     Some(EndLine::Answer { cpu: None, reply })
 }
 
-/// Parses a reply to the processor that the words `who` name.
+/// Parses a wanted reply. The words `who` name a processor or one of its replies; `reply` has the
+/// words after the colon.
 #[tactic(auto, unfolding(crate::specs::WantedLines::answer_of))]
 fn answer_from(who: &[&str], reply: &[&str]) -> Option<EndLine>
     ensures { result ≡ says.answer_of (map (λ w. w.now) who.now) (map (λ w. w.now) reply.now) }

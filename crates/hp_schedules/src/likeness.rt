@@ -22,7 +22,7 @@ pub(crate) fn same_answers(all: &[Replies], others: &[Replies]) -> bool
     true
 }
 
-/// Returns whether both lists hold the same replies.
+/// Returns whether both lists hold equal replies in the same order.
 fn same_replies(replies: &[Reply], others: &[Reply]) -> bool
     ensures { IsTrue result ↔ (replies.now ≡ others.now) }
 {

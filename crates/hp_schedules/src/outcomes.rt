@@ -89,8 +89,21 @@ impl Outcome {
     pub fn same(&self, other: &Outcome) -> bool
         ensures { IsTrue result ↔ (self.now ≡ other.now) }
     {
+        self.same_replies(other) && self.same_blocks(other)
+    }
+
+    /// Returns whether each processor got the same replies in both.
+    pub fn same_replies(&self, other: &Outcome) -> bool
+        ensures { IsTrue result ↔ (self.now.replies ≡ other.now.replies) }
+    {
         same_answers(self.replies.as_slice(), other.replies.as_slice())
-            && same_rows(self.blocks.as_slice(), other.blocks.as_slice())
+    }
+
+    /// Returns whether the memory blocks are in the same states in both.
+    pub fn same_blocks(&self, other: &Outcome) -> bool
+        ensures { IsTrue result ↔ (self.now.blocks ≡ other.now.blocks) }
+    {
+        same_rows(self.blocks.as_slice(), other.blocks.as_slice())
     }
 
     /// Returns a hash. Equal outcomes have equal hashes.
@@ -214,7 +227,7 @@ fn is_told_at(replies: &[Reply], place: usize, latest: &Record) -> bool
     }
 }
 
-/// Returns whether both lists hold the same rows.
+/// Returns whether both lists hold equal rows in the same order.
 fn same_rows(rows: &[Row], others: &[Row]) -> bool
     ensures { IsTrue result ↔ (rows.now ≡ others.now) }
 {

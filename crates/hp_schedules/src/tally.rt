@@ -37,6 +37,23 @@ pub fn total_of(ends: &[Ending]) -> u128
     total
 }
 
+impl Ending {
+    /// Returns a copy.
+    pub fn copy(&self, alloc: Global) -> Result<Ending, AllocError>
+        ensures outcome { IfOk result (λ copy. copy.outcome ≡ self.now.outcome) }
+        ensures count { IfOk result (λ copy. copy.count ≡ self.now.count) }
+        ensures first { IfOk result (λ copy. copy.first.items ≡ self.now.first.items) }
+    {
+        let outcome = self.outcome.copy(alloc)?;
+        let first: Vec<Cpu> = self.first.iter().copied().collect(alloc)?;
+        Ok(Ending {
+            outcome,
+            count: self.count,
+            first,
+        })
+    }
+}
+
 /// Returns the schedule of the records: their processors, in order.
 pub fn schedule_of(alloc: Global, records: &[Record]) -> Result<Vec<Cpu>, AllocError>
     ensures { IfOk result (λ schedule. schedule.items ≡ schedule_of records.now) }

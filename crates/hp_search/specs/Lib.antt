@@ -1,7 +1,6 @@
 pub mod Ends
 pub mod Explorations
 pub mod FaultOrigins
-pub mod FaultTexts
 pub mod Faults
 pub mod Findings
 pub mod FoundTexts

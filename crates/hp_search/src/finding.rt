@@ -10,7 +10,9 @@ ghost use Rattle.hp_search.specs.FoundTexts.{absent_told, found_text, schedule_t
 ghost use Rattle.hp_search.specs.declared.found.FindResult.TheVariants.{Unknown};
 
 use crate::lab_fault::LabFault;
-use crate::{FindResult, FindText, Prepared, ScheduleForm, found_object, nearest_text, prepare};
+use crate::objects::found_object;
+use crate::words::nearest_text;
+use crate::{FindResult, FindText, Prepared, ScheduleForm, prepare};
 use hp_explore::{ExploreFault, FindFault, Found, Watch, changes_of, find};
 use hp_questions::{Wanted, first_past};
 use hp_units::{Cpu, Record};
@@ -139,7 +141,9 @@ fn found_told(
 }
 
 /// Returns a schedule of the scripts and its calls as text in `form`. Replays the schedule.
-fn schedule_told(
+///
+/// Fails if memory allocation fails, or if the schedule cannot be played.
+pub fn schedule_told(
     alloc: Global,
     prepared: &Prepared,
     schedule: &[Cpu],

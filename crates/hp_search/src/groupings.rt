@@ -10,7 +10,7 @@ use crate::groups::GroupBy;
 use crate::objects::{write_answers, write_blocks};
 use hp_questions::{PlanEnds, all_plan_ends, plans_digest, same_plan_ends};
 use hp_schedules::{CallScript, Outcome, Replies, mixed};
-use hp_units::{Reply, Row};
+use hp_units::Row;
 use std::alloc::{AllocError, Global};
 use std::marker::Model;
 
@@ -65,8 +65,8 @@ pub(crate) fn agree(
     ensures { IfOk result (λ is. IsTrue is ↔ Agree by.now outcome.now other.now) }
 {
     match by.part() {
-        GroupBy::Blocks => Ok(same_rows(outcome.blocks(), other.blocks())),
-        GroupBy::Answers => Ok(same_answers(outcome.replies(), other.replies())),
+        GroupBy::Blocks => Ok(outcome.same_blocks(other)),
+        GroupBy::Answers => Ok(outcome.same_replies(other)),
         GroupBy::Plans => plans_agree(alloc, by, outcome, other),
     }
 }
@@ -85,58 +85,6 @@ fn plans_agree(
     let ends = by.plan_ends(alloc, outcome)?;
     let others = by.plan_ends(alloc, other)?;
     Ok(same_plan_ends(ends.as_slice(), others.as_slice()))
-}
-
-/// Returns whether both lists hold the same rows.
-fn same_rows(rows: &[Row], others: &[Row]) -> bool
-    ensures { IsTrue result ↔ (rows.now ≡ others.now) }
-{
-    if rows.len() != others.len() {
-        return false;
-    }
-    for place in 0..rows.len() {
-        if !same_row(&rows[place], &others[place]) {
-            return false;
-        }
-    }
-    true
-}
-
-/// Returns whether both rows are equal.
-pub(crate) fn same_row(row: &Row, other: &Row) -> bool
-    ensures { IsTrue result ↔ (row.now ≡ other.now) }
-{
-    *row == *other
-}
-
-/// Returns whether each processor has the same replies in both lists.
-fn same_answers(all: &[Replies], others: &[Replies]) -> bool
-    ensures { IsTrue result ↔ (all.now ≡ others.now) }
-{
-    if all.len() != others.len() {
-        return false;
-    }
-    for place in 0..all.len() {
-        if !same_replies(all[place].as_slice(), others[place].as_slice()) {
-            return false;
-        }
-    }
-    true
-}
-
-/// Returns whether both lists hold the same replies.
-fn same_replies(replies: &[Reply], others: &[Reply]) -> bool
-    ensures { IsTrue result ↔ (replies.now ≡ others.now) }
-{
-    if replies.len() != others.len() {
-        return false;
-    }
-    for place in 0..replies.len() {
-        if !replies[place].same(&others[place]) {
-            return false;
-        }
-    }
-    true
 }
 
 /// Returns a hash of the part of an outcome by which ends are grouped. Equal parts have equal

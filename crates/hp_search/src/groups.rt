@@ -6,7 +6,6 @@ ghost use Rattle.hp_search.specs.Groups.{AddsEnd, AreGroups, AreKnown, AreShown,
 use crate::groupings::{Grouping, agree, part_digest};
 use hp_explore::Exploration;
 use hp_schedules::{CallScript, Ending, Outcome, learn};
-use hp_units::Cpu;
 use indexmap::IndexMap;
 use std::alloc::{AllocError, Global};
 use std::marker::Model;
@@ -158,7 +157,7 @@ impl<'a> Groups<'a> {
         ensures ok { OnOk result (Begins self.old.by self.old.ends end.now self.new.ends) }
         ensures err { OnErr result (self.new ≡ self.old) }
     {
-        let group = copy_of(alloc, end)?;
+        let group = end.copy(alloc)?;
         self.ends.reserve(1)?;
         learn(&mut self.latest, digest, self.ends.len())?;
         self.ends.push_reserved(group);
@@ -176,21 +175,6 @@ impl<'a> Groups<'a> {
         } = self;
         ends
     }
-}
-
-/// Returns a copy of an end.
-fn copy_of(alloc: Global, end: &Ending) -> Result<Ending, AllocError>
-    ensures outcome { IfOk result (λ copy. copy.outcome ≡ end.now.outcome) }
-    ensures count { IfOk result (λ copy. copy.count ≡ end.now.count) }
-    ensures first { IfOk result (λ copy. copy.first.items ≡ end.now.first.items) }
-{
-    let outcome = end.outcome.copy(alloc)?;
-    let first: Vec<Cpu> = end.first.iter().copied().collect(alloc)?;
-    Ok(Ending {
-        outcome,
-        count: end.count,
-        first,
-    })
 }
 
 /// Returns the index of the group that an end with this outcome belongs to, if there is one.

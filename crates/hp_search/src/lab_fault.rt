@@ -1,70 +1,59 @@
 //! Why an exploration or a search of a scenario failed.
-ghost use Rattle.std.specs.Prelude.{◌≡◌, Some};
+ghost use Rattle.std.specs.Prelude.{◌≡◌};
 ghost use Rattle.hp_search.specs.declared.lab_fault.LabFault.TheVariants.{OutOfMemory};
 
 use hp_scenario::{ScenarioFault, Unfit};
 use hp_starts::StartFault;
 use hp_units::LayoutFault;
 use std::alloc::AllocError;
-use std::error::Error;
 use std::fmt;
+use thiserror::Error;
 
 /// Why an exploration or a search of a scenario failed. `OutOfMemory` may come in place of any
 /// other.
-#[derive(Clone, Copy, Debug, PartialEq, Eq, Drop)]
+#[derive(Error, Clone, Copy, Debug, PartialEq, Eq, Drop)]
 pub enum LabFault {
     /// The input is not JSON.
+    #[error("not JSON")]
     NotJson,
     /// The input is JSON but not a scenario: a key, a type or a word is wrong.
+    #[error("wrong shape")]
     BadShape,
     /// The scenario's layout is out of its limits.
+    #[error("layout fault {0}")]
     Layout(LayoutFault),
     /// A string of `calls` cannot be read as a line; lines are counted from 1.
+    #[error("line {line} not understood")]
     BadLine { line: u64 },
     /// A line after the setup may not be in a script; lines are counted from 1.
+    #[error("line {line} not for a script: {why}")]
     NotForScript { line: u64, why: Unfit },
     /// A wanted line names a processor, a memory block or a frame past the layout's last; wanted
     /// lines are counted from 1.
+    #[error("wanted line {number} names what is past the layout")]
     PastLayout { number: u64 },
     /// The layout's history has no room for all calls of an interleaving. It needs room for
     /// `needed` records; `None` if a script holds a plan, whose calls only a search can count, or
     /// if the number is 2^64 or more.
+    #[error("no room in the history for all calls of an interleaving{}", Room(*needed))]
     HistoryFull { needed: Option<u64> },
     /// Out of memory.
+    #[error("out of memory")]
     OutOfMemory,
 }
 
-impl fmt::Display for LabFault {
-    ghost use Rattle.hp_search.specs.FaultTexts.{fault_text};
+/// How much room a full history would need, as the end of a fault's text.
+#[derive(Drop)]
+struct Room(Option<u64>);
 
-    ghost output = { λ f. Some (fault_text f) };
-
+impl fmt::Display for Room {
     fn fmt<W: fmt::Write>(&self, f: &mut fmt::Formatter<W>) -> fmt::Result {
-        match self {
-            LabFault::NotJson => write!(f, "not JSON"),
-            LabFault::BadShape => write!(f, "wrong shape"),
-            LabFault::Layout(fault) => write!(f, "layout fault {fault}"),
-            LabFault::BadLine { line } => write!(f, "line {line} not understood"),
-            LabFault::NotForScript { line, why } => {
-                write!(f, "line {line} not for a script: ")?;
-                write!(f, "{why}")
-            }
-            LabFault::PastLayout { number } => {
-                write!(f, "wanted line {number} names what is past the layout")
-            }
-            LabFault::HistoryFull { needed } => match needed {
-                Some(needed) => write!(
-                    f,
-                    "no room in the history for all calls of an interleaving: it needs {needed} records"
-                ),
-                None => write!(f, "no room in the history for all calls of an interleaving"),
-            },
-            LabFault::OutOfMemory => write!(f, "out of memory"),
+        match self.0 {
+            Some(records) => write!(f, ": it needs {records} records"),
+            None => Ok(()),
         }
     }
 }
-
-impl Error for LabFault {}
 
 impl From<AllocError> for LabFault {
     ghost from_gives = { λ _ e. e ≡ OutOfMemory };

@@ -12,7 +12,7 @@
 //! the parts of a search. The crates that return such a fault state when it comes.
 //!
 //! Read specs/Prepared and specs/Holding first, then specs/Explorations (what `explore_text`
-//! promises), specs/Findings, specs/Words, specs/FaultTexts and specs/FaultOrigins.
+//! promises), specs/Findings, specs/Words and specs/FaultOrigins.
 #![tactic(auto)]
 
 mod ends;
@@ -28,23 +28,20 @@ mod part_fault;
 mod prepared;
 mod program_fault;
 mod replays;
-mod said;
 mod summaries;
-mod threads;
 mod words;
 
 pub use exploring::explore_text;
-pub use finding::find_text;
+pub use finding::{find_text, schedule_told};
 pub use forms::{EndsForm, ScheduleForm};
 pub use found::{FindResult, FindText, SearchText};
 pub use groupings::Grouping;
 pub use groups::{GroupBy, groups_of};
 pub use lab_fault::LabFault;
-pub use objects::{found_object, write_keys, write_more};
+pub use objects::{write_keys, write_more};
 pub use part_fault::PartFault;
 pub use prepared::{Prepared, prepare};
 pub use program_fault::LabProgramFault;
 pub use replays::replay_text;
 pub use summaries::write_summary;
-pub use threads::explore_text_with_jobs;
-pub use words::{nearest_text, write_counts, write_end};
+pub use words::{write_counts, write_end};

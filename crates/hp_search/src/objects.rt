@@ -13,8 +13,8 @@ use std::alloc::{AllocError, Global};
 /// The separator of two values of a list.
 const BETWEEN: &str = ", ";
 
-/// Writes an object with how many interleavings were counted and how many there are. Writes nothing
-/// if all were counted.
+/// Writes an object with how many interleavings were counted, and how many there are, or `null` if
+/// that is not known. Writes nothing if all were counted.
 pub fn write_more(out: &mut String, counted: u128, more: Option<HowMany>) -> Result<(), AllocError>
     ensures { OnOk result (string_bytes out.new ≡ string_bytes out.old ++ more_object counted more) }
 {
@@ -24,8 +24,8 @@ pub fn write_more(out: &mut String, counted: u128, more: Option<HowMany>) -> Res
     }
 }
 
-/// Writes an object with how many interleavings were counted, and how many there are if that is
-/// known.
+/// Writes an object with how many interleavings were counted, and how many there are, or `null` if
+/// that is not known.
 fn write_first(out: &mut String, counted: u128, known: HowMany) -> Result<(), AllocError>
     ensures { OnOk result (string_bytes out.new ≡ string_bytes out.old ++ first_object counted known) }
 {
@@ -162,7 +162,7 @@ fn write_played(
 
 /// Returns the JSON object of a schedule that was found: its number of processor changes, and its
 /// calls if it can be played. Owners are written by name.
-pub fn found_object(
+pub(crate) fn found_object(
     alloc: Global,
     names: &IndexSet<Text>,
     changes: usize,

@@ -2,7 +2,6 @@
 ghost use Rattle.std.specs.Prelude.{OnOk, string_bytes};
 ghost use Rattle.hp_search.specs.Summaries.{Continues, WritesLine, WritesSummary};
 
-use crate::groupings::same_row;
 use crate::write_counts;
 use hp_schedules::{Ending, HowMany, Replies, total_of};
 use hp_units::{Reply, Row, State, Zone};
@@ -141,7 +140,7 @@ fn has_room(out: &str, more: &str, is_last: bool, most: usize) -> bool {
 /// Returns whether there are a row at index `place` and a next one, and both are equal.
 fn is_like_next(rows: &[Row], place: usize) -> bool {
     match (rows.get(place), rows.get(place.saturating_add(1))) {
-        (Some(row), Some(next)) => same_row(row, next),
+        (Some(row), Some(next)) => *row == *next,
         _ => false,
     }
 }

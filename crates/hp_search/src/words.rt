@@ -145,7 +145,7 @@ fn write_played(
 
 /// Returns the text of a schedule that was found: its number of processor changes, and its calls if
 /// it can be played. Owners are written by name.
-pub fn nearest_text(
+pub(crate) fn nearest_text(
     alloc: Global,
     names: &IndexSet<Text>,
     changes: usize,

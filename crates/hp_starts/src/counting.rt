@@ -49,7 +49,8 @@ fn known_after(
     }
 }
 
-/// Returns how many interleavings the scripts of `lines` have.
+/// Returns how many interleavings the scripts of `lines` have, or that there are more than `limit`.
+/// The number is unknown if a script holds a plan.
 fn known_of(alloc: Global, cpus: u32, lines: &[Line], limit: u64) -> Result<HowMany, AllocError>
     ensures { IfOk result (AreKnownAs cpus lines.now limit) }
 {

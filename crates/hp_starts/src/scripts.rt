@@ -60,6 +60,9 @@ fn script_of(
 
 /// Returns the line at `place` as a step of a processor's script. Returns `None` if it is not the
 /// processor's line, or may not be in a script.
+///
+/// `op` is the operation that the processor began last before the scripts, and `has_begun` states
+/// whether an earlier line of its script begins one.
 fn step_for(
     alloc: Global,
     cpu: Cpu,

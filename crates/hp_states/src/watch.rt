@@ -14,8 +14,7 @@ pub trait Watch {
     fn counted(&mut self, schedules: u64)
         ensures { has_ended self.old → has_ended self.new };
 
-    /// Returns how many bytes a search in several threads may keep. Each thread may keep an equal
-    /// share of them.
+    /// Returns how many bytes a search in several threads may keep, all threads together.
     fn memory(&self) -> u64;
 
     /// Called with the number of places that a search has reached so far, and with about how many

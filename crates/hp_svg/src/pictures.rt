@@ -141,7 +141,8 @@ fn write_legend(
     write_notes(out, marks.len(), has_kernel)
 }
 
-/// Draws the signs of the legend, the first at index `place`; the kernel's only if it has blocks.
+/// Draws the signs of the legend, the first at index `place`. The sign for the kernel's blocks is
+/// left out unless `has_kernel`.
 fn write_notes(out: &mut String, place: usize, has_kernel: bool) -> Result<(), AllocError>
     requires { place < 2 ^ 63 }
 {

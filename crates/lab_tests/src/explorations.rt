@@ -3,6 +3,7 @@ use hp_explore::Silent;
 use hp_search::{EndsForm, GroupBy, explore_text};
 use std::alloc::{AllocError, Global};
 use std::test::Fail;
+use std::thread::Threads;
 
 /// An offline against a map, with one free frame outside the block, which both may need.
 /// The expected replies in each order of the four calls are those of a separate program
@@ -128,12 +129,17 @@ pub fn scenario(alloc: Global, history: u64, lines: &str) -> Result<String, Allo
     )
 }
 
-/// Returns whether an exploration has the expected text.
-fn explores(alloc: Global, row: &Explored) -> Result<bool, AllocError> {
+/// Returns whether an exploration in `jobs` threads has the expected text.
+fn explores<R: Threads + Sync>(
+    rt: &R,
+    alloc: Global,
+    jobs: u32,
+    row: &Explored,
+) -> Result<bool, AllocError> {
     let (lines, setup, form, by, text) = row;
     let scenario = scenario(alloc, 40, lines)?;
     let input = scenario.as_bytes();
-    match explore_text(alloc, input, *setup, 100, *form, *by, &mut Silent) {
+    match explore_text(rt, alloc, input, *setup, 100, *form, *by, jobs, &mut Silent) {
         Ok(finding) => Ok(finding.text.as_str() == *text),
         Err(_fault) => Ok(false),
     }
@@ -142,7 +148,8 @@ fn explores(alloc: Global, row: &Explored) -> Result<bool, AllocError> {
 #[test]
 fn explorations_have_their_text(rt: HostRuntime) -> Result<(), Fail> {
     for row in EXPLORED {
-        assert!(rt; explores(rt.alloc(), row)?, "{}", row.0);
+        assert!(rt; explores(&rt, rt.alloc(), 1, row)?, "{}", row.0);
+        assert!(rt; explores(&rt, rt.alloc(), 3, row)?, "{}", row.0);
     }
     Ok(())
 }
@@ -170,11 +177,21 @@ const LIMITED: &[Limited] = &[
 ];
 
 /// Returns whether an exploration stops at its limit with the expected text.
-fn stops(alloc: Global, row: &Limited) -> Result<bool, AllocError> {
+fn stops<R: Threads + Sync>(rt: &R, alloc: Global, row: &Limited) -> Result<bool, AllocError> {
     let (lines, setup, limit, form, text) = row;
     let scenario = scenario(alloc, 40, lines)?;
     let input = scenario.as_bytes();
-    match explore_text(alloc, input, *setup, *limit, *form, None, &mut Silent) {
+    match explore_text(
+        rt,
+        alloc,
+        input,
+        *setup,
+        *limit,
+        *form,
+        None,
+        1,
+        &mut Silent,
+    ) {
         Ok(finding) => Ok(!finding.is_found && finding.text.as_str() == *text),
         Err(_fault) => Ok(false),
     }
@@ -183,7 +200,7 @@ fn stops(alloc: Global, row: &Limited) -> Result<bool, AllocError> {
 #[test]
 fn the_first_are_told_past_the_limit(rt: HostRuntime) -> Result<(), Fail> {
     for row in LIMITED {
-        assert!(rt; stops(rt.alloc(), row)?, "{}", row.0);
+        assert!(rt; stops(&rt, rt.alloc(), row)?, "{}", row.0);
     }
     Ok(())
 }

@@ -6,6 +6,7 @@ use hp_schedules::ShardId;
 use hp_search::{EndsForm, PartFault, explore_text};
 use std::alloc::{AllocError, Global};
 use std::test::Fail;
+use std::thread::Threads;
 
 /// An offline against calls of another processor, after `SETUP` lines of setup.
 const RACE: &str = "0 map db 0;0 write db 0 0 7;0 kalloc 0;0 begin off 1;0 migrate 0;0 commit 0;\
@@ -55,15 +56,22 @@ fn has_sum(alloc: Global, text: &str, form: EndsForm, whole: &str) -> bool {
 }
 
 /// Returns whether the parts in `text` add up to the exploration of `RACE`.
-fn adds_up(alloc: Global, text: &str, form: EndsForm) -> Result<bool, AllocError> {
+fn adds_up<R: Threads + Sync>(
+    rt: &R,
+    alloc: Global,
+    text: &str,
+    form: EndsForm,
+) -> Result<bool, AllocError> {
     let scenario = scenario(alloc, 40, RACE)?;
     match explore_text(
+        rt,
         alloc,
         scenario.as_bytes(),
         SETUP,
         100,
         form,
         None,
+        1,
         &mut Silent,
     ) {
         Ok(whole) => Ok(has_sum(alloc, text, form, whole.text.as_str())),
@@ -72,9 +80,14 @@ fn adds_up(alloc: Global, text: &str, form: EndsForm) -> Result<bool, AllocError
 }
 
 /// Returns whether the `of` parts of `RACE` add up to its exploration.
-fn parts_of_it_add_up(alloc: Global, of: u64, form: EndsForm) -> Result<bool, AllocError> {
+fn parts_of_it_add_up<R: Threads + Sync>(
+    rt: &R,
+    alloc: Global,
+    of: u64,
+    form: EndsForm,
+) -> Result<bool, AllocError> {
     let text = parts(alloc, of)?;
-    adds_up(alloc, &text, form)
+    adds_up(rt, alloc, &text, form)
 }
 
 /// The number of parts, and the form of their sum.
@@ -89,7 +102,7 @@ const SUMS: &[(u64, EndsForm)] = &[
 #[test]
 fn parts_add_up(rt: HostRuntime) -> Result<(), Fail> {
     for (of, form) in SUMS {
-        assert!(rt; parts_of_it_add_up(rt.alloc(), *of, *form)?, "{of}");
+        assert!(rt; parts_of_it_add_up(&rt, rt.alloc(), *of, *form)?, "{of}");
     }
     Ok(())
 }

@@ -6,6 +6,7 @@ use hp_scenario::Unfit;
 use hp_search::{EndsForm, LabFault, explore_text};
 use std::alloc::{AllocError, Global};
 use std::test::Fail;
+use std::thread::Threads;
 
 /// The lines of a scenario, the length of the setup, the wrong line, and what is wrong with it.
 type Misfit = (&'static str, u64, u64, Unfit);
@@ -28,15 +29,23 @@ const MISFITS: &[Misfit] = &[
 ];
 
 /// Returns whether an exploration is refused with this fault.
-fn is_refused(alloc: Global, scenario: &str, setup: u64, fault: LabFault) -> bool {
+fn is_refused<R: Threads + Sync>(
+    rt: &R,
+    alloc: Global,
+    scenario: &str,
+    setup: u64,
+    fault: LabFault,
+) -> bool {
     let form = EndsForm::Words;
     match explore_text(
+        rt,
         alloc,
         scenario.as_bytes(),
         setup,
         9,
         form,
         None,
+        1,
         &mut Silent,
     ) {
         Ok(_finding) => false,
@@ -46,32 +55,41 @@ fn is_refused(alloc: Global, scenario: &str, setup: u64, fault: LabFault) -> boo
 
 /// Returns whether an exploration of lines, with room for `history` records, is refused with this
 /// fault.
-fn has_fault(
+fn has_fault<R: Threads + Sync>(
+    rt: &R,
     alloc: Global,
     history: u64,
     lines: &str,
     fault: LabFault,
 ) -> Result<bool, AllocError> {
     let text = scenario(alloc, history, lines)?;
-    Ok(is_refused(alloc, &text, 0, fault))
+    Ok(is_refused(rt, alloc, &text, 0, fault))
 }
 
 /// Returns whether an exploration of the lines is refused because of the wrong line, for its
 /// reason.
-fn has_misfit(alloc: Global, misfit: &Misfit) -> Result<bool, AllocError> {
+fn has_misfit<R: Threads + Sync>(
+    rt: &R,
+    alloc: Global,
+    misfit: &Misfit,
+) -> Result<bool, AllocError> {
     let (lines, setup, line, why) = misfit;
     let fault = LabFault::NotForScript {
         line: *line,
         why: *why,
     };
     let text = scenario(alloc, 40, lines)?;
-    Ok(is_refused(alloc, &text, *setup, fault))
+    Ok(is_refused(rt, alloc, &text, *setup, fault))
 }
 
 /// Returns the index of the first row whose exploration is not refused with the fault in the row.
-fn first_other(alloc: Global, rows: &[Misfit]) -> Result<Option<usize>, AllocError> {
+fn first_other<R: Threads + Sync>(
+    rt: &R,
+    alloc: Global,
+    rows: &[Misfit],
+) -> Result<Option<usize>, AllocError> {
     for (place, row) in rows.iter().enumerate() {
-        if !has_misfit(alloc, row)? {
+        if !has_misfit(rt, alloc, row)? {
             return Ok(Some(place));
         }
     }
@@ -92,15 +110,18 @@ const REFUSED: &[(u64, &str, LabFault)] = &[
 #[test]
 fn each_fault_has_its_cause(rt: HostRuntime) -> Result<(), Fail> {
     for (history, lines, fault) in REFUSED {
-        assert!(rt; has_fault(rt.alloc(), *history, lines, *fault)?, "{lines}");
+        assert!(rt;
+            has_fault(&rt, rt.alloc(), *history, lines, *fault)?,
+            "{lines}"
+        );
     }
-    assert!(rt; is_refused(rt.alloc(), "[", 0, LabFault::NotJson));
-    assert!(rt; is_refused(rt.alloc(), "{}", 0, LabFault::BadShape));
+    assert!(rt; is_refused(&rt, rt.alloc(), "[", 0, LabFault::NotJson));
+    assert!(rt; is_refused(&rt, rt.alloc(), "{}", 0, LabFault::BadShape));
     Ok(())
 }
 
 #[test]
 fn each_misfit_has_its_cause(rt: HostRuntime) -> Result<(), Fail> {
-    assert!(rt; first_other(rt.alloc(), MISFITS)?.is_none());
+    assert!(rt; first_other(&rt, rt.alloc(), MISFITS)?.is_none());
     Ok(())
 }

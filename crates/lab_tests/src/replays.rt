@@ -4,6 +4,7 @@ use hp_explore::Silent;
 use hp_search::{EndsForm, explore_text};
 use std::alloc::Global;
 use std::test::Fail;
+use std::thread::Threads;
 
 /// An offline against a map, with one free frame outside the block, which both may need.
 const RACE: &str = "0 map db 0;0 echo o\\u007ff]\\\" memory0;0 kalloc 0;0 begin off 1;0 migrate 0;\
@@ -20,7 +21,8 @@ pub const LAST: &str =
 
 /// Returns whether the first interleaving of end `number` is written as this scenario, and
 /// `is_found` is as expected. The text is empty if there is no such end.
-fn replays(
+fn replays<R: Threads + Sync>(
+    rt: &R,
     alloc: Global,
     scenario: &str,
     setup: u64,
@@ -30,12 +32,14 @@ fn replays(
 ) -> bool {
     let form = EndsForm::Scenario(number);
     match explore_text(
+        rt,
         alloc,
         scenario.as_bytes(),
         setup,
         100,
         form,
         None,
+        1,
         &mut Silent,
     ) {
         Ok(finding) => finding.is_found == is_found && finding.text.as_str() == text,
@@ -46,10 +50,10 @@ fn replays(
 #[test]
 fn an_end_is_a_scenario(rt: HostRuntime) -> Result<(), Fail> {
     let race = scenario(rt.alloc(), 40, RACE)?;
-    assert!(rt; replays(rt.alloc(), &race, 3, 3, LAST, true));
-    assert!(rt; replays(rt.alloc(), &race, 3, 0, "", false));
-    assert!(rt; replays(rt.alloc(), &race, 3, 4, "", false));
+    assert!(rt; replays(&rt, rt.alloc(), &race, 3, 3, LAST, true));
+    assert!(rt; replays(&rt, rt.alloc(), &race, 3, 0, "", false));
+    assert!(rt; replays(&rt, rt.alloc(), &race, 3, 4, "", false));
     // All lines of `LAST` are setup now, and are written as they were read.
-    assert!(rt; replays(rt.alloc(), LAST, 7, 1, LAST, true));
+    assert!(rt; replays(&rt, rt.alloc(), LAST, 7, 1, LAST, true));
     Ok(())
 }

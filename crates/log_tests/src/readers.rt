@@ -217,6 +217,9 @@ fn ftrace_lines_are_their_events(rt: HostRuntime) {
 fn lost_events_are_a_fault_of_ftrace(rt: HostRuntime) {
     assert!(rt; is_lost("CPU:1 [LOST 12 EVENTS]"));
     assert!(rt; !is_lost("CPU:1"));
+    assert!(rt; is_lost("# entries-in-buffer/entries-written: 5/12   #P:2"));
+    assert!(rt; !is_lost("# entries-in-buffer/entries-written: 12/12   #P:2"));
+    assert!(rt; !is_lost("# entries-in-buffer/entries-written:"));
 }
 
 #[test]

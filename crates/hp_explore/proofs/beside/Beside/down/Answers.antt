@@ -48,11 +48,11 @@ arrive-requires-clause-coming g c κs within =
           (v.schedule.items ++ cpu ∷ []) ns c.go_on.new.self)
           (sym (c.push_reserved-2.ensures.items
           ∙ ap (λ (ns : List ℕ). ns ++ v.next ∷ []) c.in_ok-reserve-2.ensures.items))
-          (comes v.path q aim order v.processors v.schedule.items v.numbers.items v.next cpu c.latest.result.now
-          c.positions.result.now.cursors.items v.visited c.go_on.new.self c.is_played.ensures c.requires.some is
-          c.requires.beside.0 forth tt (λ before r at. c.latest.ensures before r (c.records.ensures ∙ at))
-          c.positions.ensures c.in_ok-go_on.ensures.same.0 c.in_ok-go_on.ensures.same.1
-          c.in_ok-go_on.ensures.kept c.in_ok-go_on.ensures.ok)),
+          (comes v.path q aim order v.processors v.schedule.items v.numbers.items v.next cpu
+          c.latest.result.now c.positions.result.now.cursors.items v.visited c.go_on.new.self
+          c.is_played.ensures c.requires.some is c.requires.beside.0 forth tt
+          (λ before r at. c.latest.ensures before r (c.records.ensures ∙ at)) c.positions.ensures
+          c.in_ok-go_on.ensures.same.0 c.in_ok-go_on.ensures.same.1 c.in_ok-go_on.ensures.kept c.in_ok-go_on.ensures.ok)),
       keys_forth v.path q aim cpu v.keys forth c.requires.beside.1,
     )
 

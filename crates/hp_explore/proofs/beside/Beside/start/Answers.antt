@@ -17,7 +17,8 @@ returns-clause-beside c =
     λ wanted. (
       subst (λ (p : PathValue). IsBesideAt p.setting (aim_within p.setting wanted None) order many p.news
           c.new.result.items c.new-2.result.items 0 v) (sym c.in_ok-path.ensures)
-          (subst (λ (s : List ℕ). IsBesideAt g (aim_within g wanted None) order many [] s c.new-2.result.items 0 v)
+          (subst
+          (λ (s : List ℕ). IsBesideAt g (aim_within g wanted None) order many [] s c.new-2.result.items 0 v)
           (sym c.new.ensures.items)
           (subst (λ (s : List ℕ). IsBesideAt g (aim_within g wanted None) order many [] [] s 0 v)
           (sym c.new-2.ensures.items)

@@ -80,5 +80,6 @@ returns-clause-on_path g c =
           (written_asked p.setting h c.args.aim.now.wanted.now g.Q.Question.wanted c.args.aim.now.budget
           v.stops p.news v.numbers.items v.key c.requires.setting c.requires.aim.0 c.requires.aim.1
           (c.in_ok-write_key.ensures.ok c.if-not-branch.false))) are)
-      | else-is_common+in_ok-find_or_add+else-branch w ↦ subst (ArePathKeys h aim p.news) (sym w.on_path-is) are
+      | else-is_common+in_ok-find_or_add+else-branch w ↦
+          subst (ArePathKeys h aim p.news) (sym w.on_path-is) are
     ]
