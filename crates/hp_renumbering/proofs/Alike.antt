@@ -6,9 +6,9 @@ use Rattle.std.proofs.lemmas.Option.{same_Some}
 use Rattle.hp_units.specs.Memory.{FreeFrames, Memory, Pages}
 use Rattle.hp_units.specs.Step.{Answered, step}
 use Rattle.hp_units.specs.declared.events.Event.{Event}
-use Rattle.hp_units.specs.declared.events.Event.TheVariants.{KernelAlloc, KernelFree, Map, Unmap, Write, Read, Drain, Online, Begin, DrainFor, Migrate, Commit, Cancel, UndoAfter, Probe, Remove, SetAuto}
+use Rattle.hp_units.specs.declared.events.Event.TheVariants.{KernelAlloc, DrainFor, Migrate, Commit, Cancel}
 use Rattle.hp_units.specs.declared.replies.Reply.{Reply}
-use Rattle.hp_units.specs.declared.replies.Reply.TheVariants.{Done, Frame, Word, Moved, Opened, Restored, Released, Undone, Refused}
+use Rattle.hp_units.specs.declared.replies.Reply.TheVariants.{Opened}
 use Rattle.hp_units.specs.declared.rows.Auto.{Auto}
 use Rattle.hp_units.specs.declared.rows.Claim.{Claim}
 use Rattle.hp_units.specs.declared.rows.Row.{Row}
@@ -29,15 +29,8 @@ opened_as n reply = reply
 
 own_reply : (f : ℕ → ℕ) (n : ℕ) (reply : Reply) → ((op : ℕ) → reply ≡ Opened op → op ≡ n)
     → opened_as n (renumbered_reply f reply) ≡ reply
-own_reply f n Done opens = refl
-own_reply f n (Frame frame) opens = refl
-own_reply f n (Word word) opens = refl
-own_reply f n (Moved from to) opens = refl
 own_reply f n (Opened op) opens = ap (λ (m : ℕ). Opened m) (sym (opens op refl))
-own_reply f n Restored opens = refl
-own_reply f n Released opens = refl
-own_reply f n (Undone count) opens = refl
-own_reply f n (Refused refusal) opens = refl
+own_reply f n reply opens = refl
 
 -- equal states and events but for the numbers of operations
 pub record AreSameSteps (p q : ℕ → ℕ) (l : LayoutParts) (s t : Memory) (n cpu : ℕ) (e d : Event)
@@ -58,11 +51,7 @@ steps_same p q p_one q_one l s t n cpu e d number state event = record {
 }
   where
     both : renumbered_answer p (step l s n cpu e) ≡ renumbered_answer q (step l t n cpu d)
-    both =
-        sym (step_same p p_one l s n cpu e)
-        ∙ (ap (λ (m : Memory). step l m (p n) cpu (renumbered_event p e)) state
-        ∙ (ap (λ (m : ℕ). step l (renumbered q t) m cpu (renumbered_event p e)) number
-        ∙ (ap (step l (renumbered q t) (q n) cpu) event ∙ step_same q q_one l t n cpu d)))
+    both = rw (← step_same p p_one l s n cpu e, ← step_same q q_one l t n cpu d, state, number, event)
 
 -- ---- what an event does to the list of steps
 
@@ -75,22 +64,7 @@ renumbered_effect f Acts = Acts
 pub effect_same : (f : ℕ → ℕ) (e : Event)
     → effect_of (renumbered_event f e) ≡ renumbered_effect f (effect_of e)
 effect_same f (KernelAlloc order) = refl
-effect_same f (KernelFree frame) = refl
-effect_same f (Map owner page) = refl
-effect_same f (Unmap owner page) = refl
-effect_same f (Write owner page index value) = refl
-effect_same f (Read owner page index) = refl
-effect_same f (Drain drained) = refl
-effect_same f (Online block zone) = refl
-effect_same f (Begin plan) = refl
-effect_same f (DrainFor op drained) = refl
-effect_same f (Migrate op) = refl
-effect_same f (Commit op) = refl
-effect_same f (Cancel op) = refl
-effect_same f (UndoAfter serial) = refl
-effect_same f (Probe address) = refl
-effect_same f (Remove block) = refl
-effect_same f (SetAuto auto) = refl
+effect_same f e = refl
 
 -- what does not depend on the operation that an event works on
 pub unseen : {A : Type 0} (g : Event → A)
@@ -99,23 +73,11 @@ pub unseen : {A : Type 0} (g : Event → A)
     → ((op other : ℕ) → g (Commit op) ≡ g (Commit other))
     → ((op other : ℕ) → g (Cancel op) ≡ g (Cancel other))
     → (f : ℕ → ℕ) (e : Event) → g (renumbered_event f e) ≡ g e
-unseen g drains migrates commits cancels f (KernelAlloc order) = refl
-unseen g drains migrates commits cancels f (KernelFree frame) = refl
-unseen g drains migrates commits cancels f (Map owner page) = refl
-unseen g drains migrates commits cancels f (Unmap owner page) = refl
-unseen g drains migrates commits cancels f (Write owner page index value) = refl
-unseen g drains migrates commits cancels f (Read owner page index) = refl
-unseen g drains migrates commits cancels f (Drain drained) = refl
-unseen g drains migrates commits cancels f (Online block zone) = refl
-unseen g drains migrates commits cancels f (Begin plan) = refl
 unseen g drains migrates commits cancels f (DrainFor op drained) = drains (f op) op drained
 unseen g drains migrates commits cancels f (Migrate op) = migrates (f op) op
 unseen g drains migrates commits cancels f (Commit op) = commits (f op) op
 unseen g drains migrates commits cancels f (Cancel op) = cancels (f op) op
-unseen g drains migrates commits cancels f (UndoAfter serial) = refl
-unseen g drains migrates commits cancels f (Probe address) = refl
-unseen g drains migrates commits cancels f (Remove block) = refl
-unseen g drains migrates commits cancels f (SetAuto auto) = refl
+unseen g drains migrates commits cancels f e = refl
 
 -- so it is the same for events that are
 pub unseen_same : {A : Type 0} (g : Event → A)
@@ -139,22 +101,7 @@ own_differ a b same = same
 
 pub own_event : (e : Event) → renumbered_event its_own e ≡ e
 own_event (KernelAlloc order) = refl
-own_event (KernelFree frame) = refl
-own_event (Map owner page) = refl
-own_event (Unmap owner page) = refl
-own_event (Write owner page index value) = refl
-own_event (Read owner page index) = refl
-own_event (Drain drained) = refl
-own_event (Online block zone) = refl
-own_event (Begin plan) = refl
-own_event (DrainFor op drained) = refl
-own_event (Migrate op) = refl
-own_event (Commit op) = refl
-own_event (Cancel op) = refl
-own_event (UndoAfter serial) = refl
-own_event (Probe address) = refl
-own_event (Remove block) = refl
-own_event (SetAuto auto) = refl
+own_event e = refl
 
 own_claim : (claim : Option Claim) → option_map (renumbered_claim its_own) claim ≡ claim
 own_claim None = refl
@@ -162,64 +109,47 @@ own_claim (Some claim) = refl
 
 own_rows : (rows : List Row) → map (renumbered_row its_own) rows ≡ rows
 own_rows [] = refl
-own_rows (row ∷ rows) =
-    ap (λ (claim : Option Claim).
-    record { state = row.state; zone = row.zone; claim = claim } ∷ map (renumbered_row its_own) rows)
-    (own_claim row.claim)
-    ∙ ap (λ (rest : List Row). row ∷ rest) (own_rows rows)
+own_rows (row ∷ rows) = rw (own_claim row.claim, own_rows rows)
 
 pub own_memory : (s : Memory) → renumbered its_own s ≡ s
-own_memory s =
-    ap (λ (rows : List Row). record {
-      free = s.free;
-      pages = s.pages;
-      kernel = s.kernel;
-      blocks = record { rows = rows; auto = s.blocks.auto };
-    }) (own_rows s.blocks.rows)
+own_memory s = rw (own_rows s.blocks.rows)
 
 -- ---- equal with other numbers
 
 claims_equal : (f : ℕ → ℕ) → IsOneToOne f → (a b : Option Claim)
     → option_map (renumbered_claim f) a ≡ option_map (renumbered_claim f) b → a ≡ b
 claims_equal f one None None same = refl
-claims_equal f one None (Some b) same = absurd cc
-claims_equal f one (Some a) None same = absurd cc
 claims_equal f one (Some a) (Some b) same =
     let claim : renumbered_claim f a ≡ renumbered_claim f b =
     same_Some (renumbered_claim f a) (renumbered_claim f b) same in
     ap (λ (op : ℕ). Some (record { op = op; wish = a.wish })) (one a.op b.op (ap (λ (c : Claim). c.op) claim))
     ∙ ap (λ (wish : Wish). Some (record { op = b.op; wish = wish })) (ap (λ (c : Claim). c.wish) claim)
+claims_equal f one a b same = absurd cc
 
 rows_equal : (f : ℕ → ℕ) → IsOneToOne f → (xs ys : List Row)
     → map (renumbered_row f) xs ≡ map (renumbered_row f) ys → xs ≡ ys
 rows_equal f one [] [] same = refl
-rows_equal f one [] (y ∷ ys) same = absurd cc
-rows_equal f one (x ∷ xs) [] same = absurd cc
 rows_equal f one (x ∷ xs) (y ∷ ys) same =
     let first : renumbered_row f x ≡ renumbered_row f y = cc in
     let rest : map (renumbered_row f) xs ≡ map (renumbered_row f) ys = cc in
-    ap (λ (state : State). made state x.zone x.claim ∷ xs) (ap (λ (r : Row). r.state) first)
-    ∙ (ap (λ (zone : Option Zone). made y.state zone x.claim ∷ xs) (ap (λ (r : Row). r.zone) first)
-    ∙ (ap (λ (claim : Option Claim). made y.state y.zone claim ∷ xs)
-    (claims_equal f one x.claim y.claim (ap (λ (r : Row). r.claim) first))
-    ∙ ap (λ (rs : List Row). y ∷ rs) (rows_equal f one xs ys rest)))
+    let claim = claims_equal f one x.claim y.claim (ap (λ (r : Row). r.claim) first) in
+    let row : made x.state x.zone x.claim ≡ made y.state y.zone y.claim =
+    cc (ap (λ (r : Row). r.state) first, ap (λ (r : Row). r.zone) first, claim) in
+    ap (λ (r : Row). r ∷ xs) row ∙ ap (λ (rs : List Row). y ∷ rs) (rows_equal f one xs ys rest)
   where
     made : State → Option Zone → Option Claim → Row
     made state zone claim = record { state = state; zone = zone; claim = claim }
+rows_equal f one xs ys same = absurd cc
 
 -- states that are equal with other numbers are equal
 pub memories_equal : (f : ℕ → ℕ) → IsOneToOne f → (s t : Memory) → renumbered f s ≡ renumbered f t → s ≡ t
 memories_equal f one s t same =
-    ap (λ (free : FreeFrames). made free s.pages s.kernel s.blocks.rows s.blocks.auto)
-    (ap (λ (m : Memory). m.free) same)
-    ∙ (ap (λ (pages : Pages). made t.free pages s.kernel s.blocks.rows s.blocks.auto)
-    (ap (λ (m : Memory). m.pages) same)
-    ∙ (ap (λ (kernel : List (Option ℕ)). made t.free t.pages kernel s.blocks.rows s.blocks.auto)
-    (ap (λ (m : Memory). m.kernel) same)
-    ∙ (ap (λ (rows : List Row). made t.free t.pages t.kernel rows s.blocks.auto)
-    (rows_equal f one s.blocks.rows t.blocks.rows (ap (λ (m : Memory). m.blocks.rows) same))
-    ∙ ap (λ (auto : Auto). made t.free t.pages t.kernel t.blocks.rows auto)
-    (ap (λ (m : Memory). m.blocks.auto) same))))
+    let kernel = ap (λ (m : Memory). m.kernel) same in
+    let rows = rows_equal f one s.blocks.rows t.blocks.rows (ap (λ (m : Memory). m.blocks.rows) same) in
+    let whole : made s.free s.pages s.kernel s.blocks.rows s.blocks.auto
+    ≡ made t.free t.pages t.kernel t.blocks.rows s.blocks.auto =
+    cc (ap (λ (m : Memory). m.free) same, ap (λ (m : Memory). m.pages) same, kernel, rows) in
+    whole ∙ ap (made t.free t.pages t.kernel t.blocks.rows) (ap (λ (m : Memory). m.blocks.auto) same)
   where
     made : FreeFrames → Pages → List (Option ℕ) → List Row → Auto → Memory
     made free pages kernel rows auto = record {

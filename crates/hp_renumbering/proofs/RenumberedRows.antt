@@ -1,13 +1,11 @@
 -- Rows in which operations have other numbers: what is read of them, and what is written.
-use Rattle.std.proofs.Common.{◌≡◌, ℕ, Bool, true, false, List, [], ◌∷◌, map, Option, Some, None, refl, ap, sym, ◌∙◌, eqb, eqb-true}
-use Rattle.std.specs.Prelude.{filter, is_some, unwrap_or}
+use Rattle.std.proofs.Common.{◌≡◌, ℕ, false, List, [], ◌∷◌, map, Option, Some, None, refl, ap, ◌∙◌, eqb, eqb-true, inl, inr}
+use Rattle.std.specs.Prelude.{is_some, unwrap_or}
 use Rattle.std.specs.List.{list_any}
 use Rattle.std.specs.Option.{option_map, option_map_or}
 use Rattle.std.proofs.Math.ListN.{get_or-map}
-use Rattle.std.proofs.lemmas.Bool.{eq-eqb}
+use Rattle.std.proofs.lemmas.Bool.{cases_Bool, eq-eqb, eqb-false, false_from_ne_true}
 use Rattle.std.proofs.lemmas.List.{map-set}
-use Rattle.std.proofs.lemmas.List.Elements.{filter_agree}
-use Rattle.hp_units.specs.Arithmetic.{all_blocks}
 use Rattle.hp_units.specs.LayoutParts.{LayoutParts}
 use Rattle.hp_units.specs.Memory.{Blocks, offline_row, row_of, with_row}
 use Rattle.hp_units.specs.Rows.{blocks_of, going_blocks, is_absent, is_claimed, is_claimed_by, is_going, is_live, is_offline, is_online, zone_of_block}
@@ -18,15 +16,12 @@ use Rattle.hp_renumbering.specs.Renumbered.{IsOneToOne, renumbered_blocks, renum
 
 -- two numbers are equal exactly if those that they become are
 pub number_same : (f : ℕ → ℕ) → IsOneToOne f → (a b : ℕ) → eqb (f a) (f b) ≡ eqb a b
-number_same f one a b = by_test (eqb a b) (eqb (f a) (f b)) refl refl
-  where
-    by_test : (x y : Bool) → eqb a b ≡ x → eqb (f a) (f b) ≡ y → y ≡ x
-    by_test true true is are = refl
-    by_test false false is are = refl
-    by_test true false is are =
-        sym are ∙ eq-eqb (f a) (f b) (ap (λ (n : ℕ). f n) (eqb-true a b is))
-    by_test false true is are =
-        sym (eq-eqb a b (one a b (eqb-true (f a) (f b) are))) ∙ is
+number_same f one a b =
+    elim (cases_Bool (eqb a b)) [
+      | inl is ↦ rw is (eq-eqb (f a) (f b) (ap f (eqb-true a b is)))
+      | inr is ↦ rw is (false_from_ne_true (eqb (f a) (f b))
+          (λ same. eqb-false a b is (one a b (eqb-true (f a) (f b) same))))
+    ]
 
 -- ---- reading
 
@@ -87,25 +82,15 @@ live_same f one bs op = any_claimed f one op bs.rows
 
 pub blocks_same : (f : ℕ → ℕ) → IsOneToOne f → (l : LayoutParts) (bs : Blocks) (op : ℕ)
     → blocks_of l (renumbered_blocks f bs) (f op) ≡ blocks_of l bs op
-blocks_same f one l bs op =
-    filter_agree (λ block. is_claimed_by (f op) (row_of (renumbered_blocks f bs) block))
-    (λ block. is_claimed_by op (row_of bs block))
-    (λ block. ap (is_claimed_by (f op)) (row_same f bs block)
-    ∙ claimed_by_same f one op (row_of bs block))
-    (all_blocks l)
+blocks_same f one l bs op = simp (row_same f bs, claimed_by_same f one op)
 
 pub going_blocks_same : (f : ℕ → ℕ) → IsOneToOne f → (l : LayoutParts) (bs : Blocks) (op : ℕ)
     → going_blocks l (renumbered_blocks f bs) (f op) ≡ going_blocks l bs op
-going_blocks_same f one l bs op =
-    ap (filter (λ block. is_going (row_of (renumbered_blocks f bs) block))) (blocks_same f one l bs op)
-    ∙ filter_agree (λ block. is_going (row_of (renumbered_blocks f bs) block))
-    (λ block. is_going (row_of bs block)) (λ block. going_same f bs block) (blocks_of l bs op)
+going_blocks_same f one l bs op = simp (blocks_same f one l bs op, going_same f bs)
 
 -- ---- writing
 
 pub with_row_same : (f : ℕ → ℕ) (bs : Blocks) (block : ℕ) (row : Row)
     → with_row (renumbered_blocks f bs) block (renumbered_row f row)
     ≡ renumbered_blocks f (with_row bs block row)
-with_row_same f bs block row =
-    ap (λ (rows : List Row). record { rows = rows; auto = bs.auto })
-    (sym (map-set (renumbered_row f) bs.rows block row))
+with_row_same f bs block row = rw map-set

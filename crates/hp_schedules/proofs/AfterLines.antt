@@ -1,66 +1,42 @@
 -- What lines take of receipts, and what they leave of them.
-use Rattle.std.proofs.Common.{◌≡◌, ℕ, List, [], ◌∷◌, ◌++◌, Option, Some, None, refl, ap, sym, ◌∙◌}
-use Rattle.std.specs.Option.{option_and_then, option_map_or}
+use Rattle.std.proofs.Common.{◌≡◌, ℕ, List, [], ◌∷◌, ◌++◌, Option, Some, None, refl, ap, sym, ◌∙◌, inl, inr}
+use Rattle.std.specs.Option.{option_map_or}
 use Rattle.std.proofs.lemmas.List.{append_assoc}
 use Rattle.std.proofs.lemmas.Option.{none-some, same_Some}
-use Rattle.hp_units.specs.declared.events.Event.{Event}
 use Rattle.hp_units.specs.declared.replies.Receipt.{Receipt}
 use Rattle.hp_schedules.specs.Scripts.{Known, after_line, after_lines, line_next, next_in, nothing_known}
 use Rattle.hp_schedules.specs.declared.scripts.Step.{Step}
-use Rattle.hp_schedules.specs.declared.scripts.Step.TheVariants.{Ask, Own, Carry}
-use Rattle.hp_schedules.proofs.Lines.{goes_on, goes_on_all, over_now}
+use Rattle.hp_schedules.specs.declared.scripts.Step.TheVariants.{Own}
+use Rattle.hp_renumbering.proofs.Options.{cases_option}
+use Rattle.hp_schedules.proofs.Lines.{over_now}
 
 -- ---- one line
 
 -- what is left does not depend on the result that the line works on
 pub any_known : (cpus : ℕ) (known : Known) (line : Step) (earlier later : List Receipt)
     → after_line cpus known line earlier later ≡ after_line cpus nothing_known line earlier later
-any_known cpus known (Own work) (x ∷ earlier) later =
-    over_now cpus known (Own work) (x ∷ earlier) later refl
-    ∙ sym (over_now cpus nothing_known (Own work) (x ∷ earlier) later refl)
 any_known cpus known (Own work) [] [] = refl
-any_known cpus known (Own work) [] (r ∷ rs) =
-    over_now cpus known (Own work) (r ∷ []) rs refl
-    ∙ sym (over_now cpus nothing_known (Own work) (r ∷ []) rs refl)
-any_known cpus known (Ask event) earlier [] = refl
-any_known cpus known (Ask event) earlier (r ∷ rs) =
-    ap (λ (rest : Option (List Receipt)).
-    option_map_or (λ e. rest) (line_next cpus nothing_known (Ask event) earlier) (Some (r ∷ rs)))
-    (any_known cpus known (Ask event) (earlier ++ r ∷ []) rs)
-any_known cpus known (Carry plan turns) earlier [] = refl
-any_known cpus known (Carry plan turns) earlier (r ∷ rs) =
-    ap (λ (rest : Option (List Receipt)).
-    option_map_or (λ e. rest) (line_next cpus nothing_known (Carry plan turns) earlier) (Some (r ∷ rs)))
-    (any_known cpus known (Carry plan turns) (earlier ++ r ∷ []) rs)
+any_known cpus known (Own work) [] (r ∷ rs) = any_known cpus known (Own work) (r ∷ []) rs
+any_known cpus known line earlier [] = refl
+any_known cpus known line earlier (r ∷ rs) =
+    ap (λ (rest : Option (List Receipt)). option_map_or (λ e. rest)
+    (line_next cpus nothing_known line earlier) (Some (r ∷ rs)))
+    (any_known cpus known line (earlier ++ r ∷ []) rs)
 
 -- what is left of more receipts
 pub after_more : (cpus : ℕ) (known : Known) (line : Step) (earlier later more rest : List Receipt)
     → after_line cpus known line earlier later ≡ Some rest
     → after_line cpus known line earlier (later ++ more) ≡ Some (rest ++ more)
-after_more cpus known line earlier [] more rest is = by_next (line_next cpus known line earlier) refl
-  where
-    by_next : (o : Option Event) → line_next cpus known line earlier ≡ o
-        → after_line cpus known line earlier more ≡ Some (rest ++ more)
-    by_next None none =
-        over_now cpus known line earlier more none
-        ∙ ap (λ (xs : List Receipt). Some (xs ++ more))
-        (same_Some [] rest (sym (over_now cpus known line earlier [] none) ∙ is))
-    by_next (Some e) some = absurd (none-some rest (sym (goes_on_all cpus known line earlier e some) ∙ is))
+after_more cpus known line earlier [] more rest is =
+    elim (cases_option (line_next cpus known line earlier)) [
+      | inl none ↦ rw (over_now cpus known line earlier more none, ← same_Some [] rest (rw none at is))
+      | inr e ↦ absurd (none-some rest (rw e.1 at is))
+    ]
 after_more cpus known line earlier (r ∷ rs) more rest is =
-    by_next (line_next cpus known line earlier) refl
-    (λ on. after_more cpus known line (earlier ++ r ∷ []) rs more rest on)
-  where
-    by_next : (o : Option Event) → line_next cpus known line earlier ≡ o
-        → (after_line cpus known line (earlier ++ r ∷ []) rs ≡ Some rest
-        → after_line cpus known line (earlier ++ r ∷ []) (rs ++ more) ≡ Some (rest ++ more))
-        → after_line cpus known line earlier (r ∷ (rs ++ more)) ≡ Some (rest ++ more)
-    by_next None none later =
-        over_now cpus known line earlier (r ∷ (rs ++ more)) none
-        ∙ ap (λ (xs : List Receipt). Some (xs ++ more))
-        (same_Some (r ∷ rs) rest (sym (over_now cpus known line earlier (r ∷ rs) none) ∙ is))
-    by_next (Some e) some later =
-        goes_on cpus known line earlier r (rs ++ more) e some
-        ∙ later (sym (goes_on cpus known line earlier r rs e some) ∙ is)
+    elim (cases_option (line_next cpus known line earlier)) [
+      | inl none ↦ rw (none, ← same_Some (r ∷ rs) rest (rw none at is))
+      | inr e ↦ rw e.1 (after_more cpus known line (earlier ++ r ∷ []) rs more rest (rw e.1 at is))
+    ]
 
 -- what is taken, and left
 pub record Parts (taken : List Receipt → Option (List Receipt)) (receipts rest : List Receipt) : Type 0 where
@@ -71,36 +47,21 @@ pub record Parts (taken : List Receipt → Option (List Receipt)) (receipts rest
 pub after_parts : (cpus : ℕ) (known : Known) (line : Step) (earlier later rest : List Receipt)
     → after_line cpus known line earlier later ≡ Some rest
     → Parts (after_line cpus known line earlier) later rest
-after_parts cpus known line earlier [] rest is = by_next (line_next cpus known line earlier) refl
-  where
-    by_next : (o : Option Event) → line_next cpus known line earlier ≡ o
-        → Parts (after_line cpus known line earlier) [] rest
-    by_next None none = record {
-      own = [];
-      whole = same_Some [] rest (sym (over_now cpus known line earlier [] none) ∙ is);
-      over = over_now cpus known line earlier [] none;
-    }
-    by_next (Some e) some = absurd (none-some rest (sym (goes_on_all cpus known line earlier e some) ∙ is))
+after_parts cpus known line earlier [] rest is =
+    elim (cases_option (line_next cpus known line earlier)) [
+      | inl none ↦ record { own = []; whole = same_Some [] rest (rw none at is); over = rw none }
+      | inr e ↦ absurd (none-some rest (rw e.1 at is))
+    ]
 after_parts cpus known line earlier (r ∷ rs) rest is =
-    by_next (line_next cpus known line earlier) refl
-    (λ on. after_parts cpus known line (earlier ++ r ∷ []) rs rest on)
-  where
-    by_next : (o : Option Event) → line_next cpus known line earlier ≡ o
-        → (after_line cpus known line (earlier ++ r ∷ []) rs ≡ Some rest
-        → Parts (after_line cpus known line (earlier ++ r ∷ [])) rs rest)
-        → Parts (after_line cpus known line earlier) (r ∷ rs) rest
-    by_next None none later = record {
-      own = [];
-      whole = same_Some (r ∷ rs) rest (sym (over_now cpus known line earlier (r ∷ rs) none) ∙ is);
-      over = over_now cpus known line earlier [] none;
-    }
-    by_next (Some e) some later =
-        let parts = later (sym (goes_on cpus known line earlier r rs e some) ∙ is) in
-        record {
-          own = r ∷ parts.own;
-          whole = ap (λ (xs : List Receipt). r ∷ xs) parts.whole;
-          over = goes_on cpus known line earlier r parts.own e some ∙ parts.over;
-        }
+    elim (cases_option (line_next cpus known line earlier)) [
+      | inl none ↦ record { own = []; whole = same_Some (r ∷ rs) rest (rw none at is); over = rw none }
+      | inr e ↦ (let parts = after_parts cpus known line (earlier ++ r ∷ []) rs rest (rw e.1 at is) in
+          record {
+            own = r ∷ parts.own;
+            whole = ap (λ (xs : List Receipt). r ∷ xs) parts.whole;
+            over = rw e.1 parts.over;
+          })
+    ]
 
 -- ---- several lines
 
@@ -114,25 +75,17 @@ pub record FirstThen (cpus : ℕ) (known : Known) (line : Step) (lines : List St
 pub first_then : (cpus : ℕ) (known : Known) (line : Step) (lines : List Step) (receipts rest : List Receipt)
     → after_lines cpus known (line ∷ lines) receipts ≡ Some rest
     → FirstThen cpus known line lines receipts rest
-first_then cpus known line lines receipts rest is = by_first (after_line cpus known line [] receipts) refl
-  where
-    by_first : (o : Option (List Receipt)) → after_line cpus known line [] receipts ≡ o
-        → FirstThen cpus known line lines receipts rest
-    by_first None none =
-        absurd (none-some rest
-        (sym (ap (option_and_then (λ (xs : List Receipt). after_lines cpus known lines xs)) none) ∙ is))
-    by_first (Some left) some = record {
-      left = left;
-      first = some;
-      others = sym (ap (option_and_then (λ (xs : List Receipt). after_lines cpus known lines xs)) some) ∙ is;
-    }
+first_then cpus known line lines receipts rest is =
+    elim (cases_option (after_line cpus known line [] receipts)) [
+      | inl none ↦ absurd (none-some rest (rw none at is))
+      | inr left ↦ record { left = left.0; first = left.1; others = rw left.1 at is }
+    ]
 
 pub then_all : (cpus : ℕ) (known : Known) (line : Step) (lines : List Step)
     (receipts left rest : List Receipt)
     → after_line cpus known line [] receipts ≡ Some left → after_lines cpus known lines left ≡ Some rest
     → after_lines cpus known (line ∷ lines) receipts ≡ Some rest
-then_all cpus known line lines receipts left rest first others =
-    ap (option_and_then (λ (xs : List Receipt). after_lines cpus known lines xs)) first ∙ others
+then_all cpus known line lines receipts left rest first others = rw first others
 
 pub lines_more : (cpus : ℕ) (known : Known) (lines : List Step) (receipts more rest : List Receipt)
     → after_lines cpus known lines receipts ≡ Some rest
@@ -172,8 +125,7 @@ lines_then cpus known [] others receipts rest is =
     ap (after_lines cpus known others) (same_Some receipts rest is)
 lines_then cpus known (line ∷ lines) others receipts rest is =
     let parts = first_then cpus known line lines receipts rest is in
-    ap (option_and_then (λ (xs : List Receipt). after_lines cpus known (lines ++ others) xs)) parts.first
-    ∙ lines_then cpus known lines others parts.left rest parts.others
+    rw parts.first (lines_then cpus known lines others parts.left rest parts.others)
 
 -- the first lines of such lines
 pub record Before (cpus : ℕ) (known : Known) (lines others : List Step)
@@ -201,5 +153,4 @@ pub all_over : (cpus : ℕ) (known : Known) (lines : List Step) (receipts rest :
 all_over cpus known [] receipts rest is = refl
 all_over cpus known (line ∷ lines) receipts rest is =
     let parts = first_then cpus known line lines receipts rest is in
-    ap (λ (o : Option (List Receipt)). option_map_or (λ left. next_in cpus known lines left) o
-    (line_next cpus known line receipts)) parts.first ∙ all_over cpus known lines parts.left rest parts.others
+    rw parts.first (all_over cpus known lines parts.left rest parts.others)

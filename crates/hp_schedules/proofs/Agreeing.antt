@@ -1,53 +1,42 @@
 -- Lines that work on equal results call the same.
-use Rattle.std.proofs.Common.{◌≡◌, ℕ, zero, suc, ◌<◌, ◌≤◌, Bool, true, false, cond, List, [], ◌∷◌, ◌++◌, drop, filter, get_or, length, map, Option, Some, None, slice_get, refl, ap, sym, subst, ◌∙◌, ◌⊎◌, inl, inr, arith}
-use Rattle.std.specs.Prelude.{flat_map, fold}
-use Rattle.std.specs.Option.{option_map_or}
-use Rattle.std.proofs.lemmas.Bool.{and_parts, cases_lt}
+use Rattle.std.proofs.Common.{◌≡◌, ℕ, zero, suc, Bool, true, List, [], ◌∷◌, ◌++◌, drop, get_or, length, map, Some, slice_get, refl, ap, sym, ◌∙◌, inl, inr, arith}
+use Rattle.std.specs.Prelude.{flat_map}
+use Rattle.std.specs.List.{list_all}
+use Rattle.std.proofs.lemmas.Bool.{and_parts, cases_Bool, cases_lt}
 use Rattle.std.proofs.lemmas.List.{get_or_append_left, get_or-append_right, length-append, map-append}
 use Rattle.std.proofs.lemmas.List.Elements.{filter-append}
 use Rattle.std.proofs.lemmas.List.Sums.{fold-append}
 use Rattle.std.proofs.lemmas.Option.{same_Some}
 use Rattle.hp_units.specs.declared.events.Event.{Event}
-use Rattle.hp_units.specs.declared.events.Event.TheVariants.{KernelFree}
 use Rattle.hp_units.specs.declared.replies.Receipt.{Receipt}
 use Rattle.hp_schedules.specs.Alike.{AreMergeable, is_mergeable, is_mergeable_line, unnumbered}
 use Rattle.hp_schedules.specs.Cursors.{frames_named}
-use Rattle.hp_schedules.specs.Scripts.{Known, after_line, frame_in, frames_of, known_of, later_operation, line_next, next_in, no_frame, once, own_operation, step_work_of, takes_frame, work_of}
+use Rattle.hp_schedules.specs.Scripts.{Known, after_line, frames_of, known_of, later_operation, line_next, next_in, nothing_known, no_frame, once, own_operation, step_work_of, takes_frame, work_of}
 use Rattle.hp_schedules.specs.Starts.{same_starts}
 use Rattle.hp_schedules.specs.declared.scripts.OwnWork.TheVariants.{Latest, Nth, Free}
 use Rattle.hp_schedules.specs.declared.scripts.Step.{Step}
 use Rattle.hp_schedules.specs.declared.scripts.Step.TheVariants.{Ask, Own, Carry}
 use Rattle.hp_schedules.proofs.AfterLines.{any_known}
+use Rattle.hp_renumbering.proofs.Options.{cases_option}
 
 -- ---- results with further receipts
 
 pub frames_more : (xs ys : List Receipt) → frames_of (xs ++ ys) ≡ frames_of xs ++ frames_of ys
-frames_more xs ys =
-    ap (map (λ (r : Receipt). frame_in r.reply))
-    (filter-append (λ (r : Receipt). takes_frame r.event) xs ys)
-    ∙ map-append (λ (r : Receipt). frame_in r.reply) (filter (λ (r : Receipt). takes_frame r.event) xs)
-    (filter (λ (r : Receipt). takes_frame r.event) ys)
+frames_more xs ys = simp (filter-append, map-append)
 
 pub operation_more : (xs ys later : List Receipt) → own_operation xs ≡ own_operation ys
     → own_operation (xs ++ later) ≡ own_operation (ys ++ later)
 operation_more xs ys later same =
-    fold-append later_operation 0 xs later
-    ∙ (ap (λ (op : ℕ). fold later_operation op later) same ∙ sym (fold-append later_operation 0 ys later))
+    rw (fold-append later_operation 0 xs later, fold-append later_operation 0 ys later, same)
 
 -- the frames do not depend on the receipts' serials
 pub frames_plain : (rs : List Receipt) → frames_of (map unnumbered rs) ≡ frames_of rs
 frames_plain [] = refl
-frames_plain (r ∷ rs) = by_event (takes_frame r.event) (frames_plain rs)
-  where
-    by_event : (b : Bool) → frames_of (map unnumbered rs) ≡ frames_of rs
-        → map (λ (q : Receipt). frame_in q.reply)
-        (cond b (unnumbered r ∷ filter (λ (q : Receipt). takes_frame q.event) (map unnumbered rs))
-        (filter (λ (q : Receipt). takes_frame q.event) (map unnumbered rs)))
-        ≡ map (λ (q : Receipt). frame_in q.reply)
-        (cond b (r ∷ filter (λ (q : Receipt). takes_frame q.event) rs)
-        (filter (λ (q : Receipt). takes_frame q.event) rs))
-    by_event true same = ap (λ (frames : List ℕ). frame_in r.reply ∷ frames) same
-    by_event false same = same
+frames_plain (r ∷ rs) =
+    elim (cases_Bool (takes_frame r.event)) [
+      | inl e ↦ rw (e, frames_plain rs)
+      | inr e ↦ rw e (frames_plain rs)
+    ]
 
 -- ---- lines
 
@@ -63,64 +52,46 @@ Agree a b (line ∷ lines) = Agrees a b line × Agree a b lines
 
 line_agrees : (cpus : ℕ) (a b : Known) (line : Step) (rs : List Receipt) → Agrees a b line
     → line_next cpus a line rs ≡ line_next cpus b line rs
-line_agrees cpus a b (Ask event) rs same = refl
 line_agrees cpus a b (Own work) rs same = ap (λ (e : Event). once e rs) same
-line_agrees cpus a b (Carry plan turns) rs same = refl
+line_agrees cpus a b line rs same = refl
 
 -- so they call the same
 pub next_agree : (cpus : ℕ) (a b : Known) (lines : List Step) (rs : List Receipt) → Agree a b lines
     → next_in cpus a lines rs ≡ next_in cpus b lines rs
 next_agree cpus a b [] rs agree = refl
 next_agree cpus a b (line ∷ lines) rs agree =
-    ap (λ (o : Option (List Receipt)). option_map_or (λ rest. next_in cpus a lines rest) o
-    (line_next cpus a line rs)) (any_known cpus a line [] rs ∙ sym (any_known cpus b line [] rs))
-    ∙ (ap (λ (e : Option Event). option_map_or (λ rest. next_in cpus a lines rest)
-    (after_line cpus b line [] rs) e) (line_agrees cpus a b line rs agree.0)
-    ∙ by_rest (after_line cpus b line [] rs) (λ rest. next_agree cpus a b lines rest agree.1))
-  where
-    by_rest : (o : Option (List Receipt))
-        → ((rest : List Receipt) → next_in cpus a lines rest ≡ next_in cpus b lines rest)
-        → option_map_or (λ rest. next_in cpus a lines rest) o (line_next cpus b line rs)
-        ≡ option_map_or (λ rest. next_in cpus b lines rest) o (line_next cpus b line rs)
-    by_rest None same = refl
-    by_rest (Some rest) same = same rest
+    rw (any_known cpus a line [] rs, any_known cpus b line [] rs, line_agrees cpus a b line rs agree.0)
+    (elim (cases_option (after_line cpus nothing_known line [] rs)) [
+      | inl none ↦ rw none
+      | inr rest ↦ rw rest.1 (next_agree cpus a b lines rest.0 agree.1)
+    ])
 
 -- ---- equal numbers of the frames that lines name
 
 -- as many numbers, whatever the frames
 named_long : (f g : List ℕ) (line : Step) → length (frames_named f line) ≡ length (frames_named g line)
-named_long f g (Ask event) = refl
 named_long f g (Own (Latest work)) = refl
-named_long f g (Own (Nth nth work)) = refl
-named_long f g (Own (Free nth)) = refl
-named_long f g (Carry plan turns) = refl
+named_long f g line = refl
 
 pub all_named_long : (f g : List ℕ) (lines : List Step)
     → length (flat_map (frames_named f) lines) ≡ length (flat_map (frames_named g) lines)
 all_named_long f g [] = refl
 all_named_long f g (line ∷ lines) =
-    omega (
-      arith,
-      length-append (frames_named f line) (flat_map (frames_named f) lines),
-      length-append (frames_named g line) (flat_map (frames_named g) lines),
-      named_long f g line,
-      all_named_long f g lines,
-    )
+    omega (arith, length-append {A = ℕ}, named_long f g line, all_named_long f g lines)
 
 -- the frame of this number, with the same further frames
 frame_more : (f g more : List ℕ) (nth : ℕ) → length f ≡ length g
     → get_or f nth no_frame ≡ get_or g nth no_frame
     → get_or (f ++ more) nth no_frame ≡ get_or (g ++ more) nth no_frame
-frame_more f g more nth long same = by_place (cases_lt nth (length f))
-  where
-    by_place : (nth < length f) ⊎ (length f ≤ nth)
-        → get_or (f ++ more) nth no_frame ≡ get_or (g ++ more) nth no_frame
-    by_place (inl before) =
-        get_or_append_left f more no_frame nth before
-        ∙ (same ∙ sym (get_or_append_left g more no_frame nth (omega (arith, before, long))))
-    by_place (inr past) =
-        get_or-append_right f more (length f) nth no_frame refl past
-        ∙ sym (get_or-append_right g more (length f) nth no_frame (sym long) past)
+frame_more f g more nth long same =
+    elim (cases_lt nth (length f)) [
+      | inl before ↦
+          rw (get_or_append_left f more no_frame nth before)
+          (rw (get_or_append_left g more no_frame nth (omega (arith, before, long))) same)
+      | inr past ↦
+          get_or-append_right f more (length f) nth no_frame refl past
+          ∙ sym (get_or-append_right g more (length f) nth no_frame (sym long) past)
+    ]
 
 line_named : (a b : Known) (f g more : List ℕ) (line : Step) → is_mergeable_line line ≡ true
     → a.op ≡ b.op → a.frames ≡ f ++ more → b.frames ≡ g ++ more
@@ -130,12 +101,9 @@ line_named a b f g more (Own (Latest work)) merges op first second same =
     ap (λ (n : ℕ). step_work_of n work) op
 line_named a b f g more (Own (Nth nth work)) merges op first second same = absurd cc
 line_named a b f g more (Own (Free nth)) merges op first second same =
-    let frame : get_or a.frames nth no_frame ≡ get_or b.frames nth no_frame =
-    ap (λ (xs : List ℕ). get_or xs nth no_frame) first
-    ∙ (frame_more f g more nth (ap (λ (xs : List ℕ). get_or xs 0 0) same)
-    (ap (λ (xs : List ℕ). get_or xs 1 0) same)
-    ∙ sym (ap (λ (xs : List ℕ). get_or xs nth no_frame) second)) in
-    ap (λ (n : ℕ). KernelFree n) frame
+    let frame = frame_more f g more nth (ap (λ (xs : List ℕ). get_or xs 0 0) same)
+    (ap (λ (xs : List ℕ). get_or xs 1 0) same) in
+    rw (first, second, frame)
 line_named a b f g more (Carry plan turns) merges op first second same = tt
 
 pub all_named : (a b : Known) (f g more : List ℕ) (lines : List Step) → is_mergeable lines ≡ true
@@ -163,13 +131,16 @@ results_agree xs ys later lines merges op same =
 
 -- ---- scripts that may be merged
 
+-- what each item of a list passes, the item at a place passes
+pub each_passes : {A : Type 0} (p : A → Bool) (xs : List A) (k : ℕ) (x : A) → list_all p xs ≡ true
+    → slice_get xs k ≡ Some x → p x ≡ true
+each_passes p [] k x all here = absurd cc
+each_passes p (y ∷ xs) zero x all here = rw (← same_Some y x here) (and_parts _ _ all).0
+each_passes p (y ∷ xs) (suc k) x all here = each_passes p xs k x (and_parts _ _ all).1 here
+
 pub script_mergeable : (scripts : List (List Step)) (cpu : ℕ) (lines : List Step) → AreMergeable scripts
     → slice_get scripts cpu ≡ Some lines → is_mergeable lines ≡ true
-script_mergeable [] cpu lines all here = absurd cc
-script_mergeable (first ∷ scripts) zero lines all here =
-    subst (λ (ls : List Step). is_mergeable ls ≡ true) (same_Some first lines here) (and_parts _ _ all).0
-script_mergeable (first ∷ scripts) (suc cpu) lines all here =
-    script_mergeable scripts cpu lines (and_parts _ _ all).1 here
+script_mergeable scripts cpu lines all here = each_passes is_mergeable scripts cpu lines all here
 
 pub drop_mergeable : (k : ℕ) (lines : List Step) → is_mergeable lines ≡ true
     → is_mergeable (drop k lines) ≡ true

@@ -1,9 +1,8 @@
 -- Schedules whose records are alike continue alike, and end alike.
 use Rattle.std.proofs.Common.{◌≡◌, ℕ, zero, suc, ◌+◌, ◌<◌, ◌≤◌, true, List, [], ◌∷◌, ◌++◌, length, map, filter, eqb, Option, Some, None, refl, ap, sym, subst, ◌∙◌, arith}
-use Rattle.std.specs.Prelude.{flat_map, fold, option_map}
+use Rattle.std.specs.Prelude.{fold, option_map}
 use Rattle.std.specs.List.{range_with_len}
 use Rattle.std.proofs.lemmas.List.{map-append}
-use Rattle.std.proofs.lemmas.List.Elements.{filter-append}
 use Rattle.std.proofs.lemmas.Option.{slice_get_within}
 use Rattle.std.proofs.lemmas.Simd.{map-map}
 use Rattle.hp_units.specs.History.{net_of, run, value_of}
@@ -17,18 +16,18 @@ use Rattle.hp_units.specs.declared.replies.Reply.{Reply}
 use Rattle.hp_renumbering.specs.Renumbered.{renumbered, renumbered_event}
 use Rattle.hp_renumbering.proofs.Alike.{its_own, own_differ, own_event, own_memory}
 use Rattle.hp_schedules.specs.Alike.{AreAlike, AreJoined, AreMergeable, exchanges, is_mergeable, unnumbered}
-use Rattle.hp_schedules.specs.Openings.{AreOpen, Opening, renumbered_opening}
-use Rattle.hp_schedules.specs.Continuing.{AreJoinedBy, AreSameBy, AreSameReceipts, ContinueAlike}
-use Rattle.hp_schedules.specs.Cursors.{frames_named}
-use Rattle.hp_schedules.specs.Outcomes.{OutcomeValue, ended_rows_below, replies_below, replies_to, told}
+use Rattle.hp_schedules.specs.Openings.{Opening, renumbered_opening}
+use Rattle.hp_schedules.specs.Continuing.{AreJoinedBy, AreSameBy, AreSameReceipts}
+use Rattle.hp_schedules.specs.Outcomes.{OutcomeValue, replies_to, told}
 use Rattle.hp_schedules.specs.Schedules.{EndsWith, Setting, next_call, outcome_after, play_one, plays}
-use Rattle.hp_schedules.specs.Scripts.{frames_of, known_of, next_in, next_of, own_operation}
+use Rattle.hp_schedules.specs.Scripts.{known_of, next_of, own_operation}
 use Rattle.hp_schedules.specs.declared.scripts.Step.{Step}
 pub use Rattle.hp_schedules.proofs.SameCalls.{call_leaves, event_kept}
 use Rattle.hp_schedules.proofs.Continuing.{AreSameRecords, GoesOnAs, goes_on_as, plays_from}
 use Rattle.hp_schedules.proofs.JoinedBy.{IsSameRecord}
 use Rattle.hp_schedules.proofs.SameCalls as calls
-use Rattle.hp_schedules.proofs.Plays.{from_news, plays_on}
+use Rattle.hp_schedules.proofs.LineAnswers.{receipts_later}
+use Rattle.hp_schedules.proofs.Plays.{from_news, plays_on, recorded}
 use Rattle.hp_schedules.proofs.Agreeing.{frames_plain, next_agree, operation_more, results_agree, script_mergeable}
 use Rattle.hp_schedules.proofs.Unnumbered.{next_plain}
 
@@ -37,17 +36,14 @@ use Rattle.hp_schedules.proofs.Unnumbered.{next_plain}
 -- receipts that are the same with the numbers that operations have
 own_receipts : (rs ss : List Receipt) → AreSameReceipts its_own its_own rs ss → rs ≡ ss
 own_receipts [] [] same = refl
-own_receipts [] (s ∷ ss) same = absurd same
-own_receipts (r ∷ rs) [] same = absurd same
 own_receipts (r ∷ rs) (s ∷ ss) same =
-    ap (λ (n : ℕ). made n r.event r.reply ∷ rs) same.0.number
-    ∙ (ap (λ (e : Event). made s.serial e r.reply ∷ rs)
-    (sym (own_event r.event) ∙ (same.0.event ∙ own_event s.event))
-    ∙ (ap (λ (reply : Reply). made s.serial s.event reply ∷ rs) same.0.reply
-    ∙ ap (λ (rest : List Receipt). s ∷ rest) (own_receipts rs ss same.1)))
+    let first : made r.serial r.event r.reply ≡ made s.serial s.event s.reply =
+    cc (own_event r.event, own_event s.event, same.0.number, same.0.event, same.0.reply) in
+    ap (λ (x : Receipt). x ∷ rs) first ∙ ap (λ (rest : List Receipt). s ∷ rest) (own_receipts rs ss same.1)
   where
     made : ℕ → Event → Reply → Receipt
     made serial event reply = record { serial = serial; event = event; reply = reply }
+own_receipts rs ss same = absurd same
 
 -- with the numbers that the operations have
 same_alike : (g : Setting) (h k : List Record) → AreMergeable g.scripts → AreAlike g h k
@@ -72,31 +68,15 @@ same_alike g h k all alike = record {
   };
 }
   where
-    frames : (xs ys : List Receipt) → map unnumbered xs ≡ map unnumbered ys → frames_of xs ≡ frames_of ys
-    frames xs ys same = sym (frames_plain xs) ∙ (ap frames_of same ∙ frames_plain ys)
-
     ahead : (cpus : ℕ) (lines : List Step) (xs ys later : List Receipt) → is_mergeable lines ≡ true
         → own_operation xs ≡ own_operation ys → map unnumbered xs ≡ map unnumbered ys
         → next_of cpus lines (xs ++ later) ≡ next_of cpus lines (ys ++ later)
     ahead cpus lines xs ys later merges op same =
-        sym (next_plain cpus (known_of (xs ++ later)) lines (xs ++ later))
-        ∙ (ap (next_in cpus (known_of (xs ++ later)) lines) (map-append unnumbered xs later
-        ∙ (ap (λ (zs : List Receipt). zs ++ map unnumbered later) same
-        ∙ sym (map-append unnumbered ys later)))
-        ∙ (next_plain cpus (known_of (xs ++ later)) lines (ys ++ later)
-        ∙ next_agree cpus (known_of (xs ++ later)) (known_of (ys ++ later)) lines (ys ++ later)
-        (results_agree xs ys later lines merges op
-        (ap (λ (fs : List ℕ). flat_map (frames_named fs) lines) (frames xs ys same)))))
-
-pub continue_alike : (g : Setting) (h k : List Record) → AreMergeable g.scripts → AreAlike g h k
-    → ContinueAlike g h k
-continue_alike g h k all alike = record {
-  first_numbers = its_own;
-  second_numbers = its_own;
-  first_differ = own_differ;
-  second_differ = own_differ;
-  same = same_alike g h k all alike;
-}
+        rw (← next_plain cpus (known_of (xs ++ later)) lines (xs ++ later), map-append unnumbered xs later)
+        (rw (same, ← map-append unnumbered ys later)
+        (rw (next_plain cpus (known_of (xs ++ later)) lines (ys ++ later))
+        (next_agree cpus (known_of (xs ++ later)) (known_of (ys ++ later)) lines (ys ++ later)
+        (results_agree xs ys later lines merges op (rw (← frames_plain xs, same, frames_plain ys))))))
 
 pub all_calls : (g : Setting) (h k : List Record) → AreAlike g h k
     → length (g.start ++ h) ≡ length (g.start ++ k)
@@ -119,37 +99,26 @@ call_same g h k cpu all alike =
 exchanged_on : (cpu : ℕ) (h more : List Record)
     → exchanges cpu (h ++ more) ≡ exchanges cpu h ++ exchanges cpu more
 exchanged_on cpu h more =
-    ap (map unnumbered) (ap (map receipt_of) (filter-append (λ (r : Record). eqb r.cpu cpu) h more)
-    ∙ map-append receipt_of (filter (λ (r : Record). eqb r.cpu cpu) h)
-    (filter (λ (r : Record). eqb r.cpu cpu) more))
+    ap (map unnumbered) (receipts_later cpu h more)
     ∙ map-append unnumbered (receipts_of cpu h) (receipts_of cpu more)
 
 -- records that are the same with the numbers that operations have
 own_record : (r s : Record) → IsSameRecord its_own its_own r s → r ≡ s
 own_record r s one =
-    ap (λ (n : ℕ). made n r.cpu r.event r.reply) one.serial
-    ∙ (ap (λ (c : ℕ). made s.serial c r.event r.reply) one.cpu
-    ∙ (ap (λ (e : Event). made s.serial s.cpu e r.reply)
-    (sym (own_event r.event) ∙ (one.receipt.event ∙ own_event s.event))
-    ∙ ap (made s.serial s.cpu s.event) one.receipt.reply))
-  where
-    made : ℕ → ℕ → Event → Reply → Record
-    made serial cpu event reply = record { serial = serial; cpu = cpu; event = event; reply = reply }
+    let same : recorded r.serial r.cpu r.event r.reply ≡ recorded s.serial s.cpu s.event s.reply =
+    cc (own_event r.event, own_event s.event, one.serial, one.cpu, one.receipt.event, one.receipt.reply) in
+    same
 
 own_records : (rs ss : List Record) → AreSameRecords its_own its_own rs ss → rs ≡ ss
 own_records [] [] same = refl
-own_records [] (s ∷ ss) same = absurd same
-own_records (r ∷ rs) [] same = absurd same
 own_records (r ∷ rs) (s ∷ ss) same =
     ap (λ (first : Record). first ∷ rs) (own_record r s same.0)
     ∙ ap (λ (rest : List Record). s ∷ rest) (own_records rs ss same.1)
+own_records rs ss same = absurd same
 
 own_openings : (os : List Opening) → map (renumbered_opening its_own) os ≡ os
 own_openings [] = refl
-own_openings (o ∷ os) =
-    ap (λ (m : Memory). record { op = o.op; memory = m } ∷ map (renumbered_opening its_own) os)
-    (own_memory o.memory)
-    ∙ ap (λ (rest : List Opening). o ∷ rest) (own_openings os)
+own_openings (o ∷ os) = rw (own_memory o.memory, own_openings os)
 
 own_nets : (l : LayoutParts) (base : Memory) (a b : List Record) → AreJoinedBy its_own its_own l base a b
     → AreJoined l base a b
@@ -157,9 +126,7 @@ own_nets l base a b j = record {
   openings = j.first_openings;
   first_open = j.first_open;
   second_open =
-      subst (λ (os : List Opening). AreOpen l base b os)
-      (sym (own_openings j.second_openings) ∙ (sym j.openings ∙ own_openings j.first_openings))
-      j.second_open;
+      rw (← own_openings j.first_openings, j.openings, own_openings j.second_openings) j.second_open;
   state = sym (own_memory (run l base a)) ∙ (j.state ∙ own_memory (run l base b));
 }
 
@@ -168,16 +135,8 @@ begun_on : (cpu : ℕ) (h k more : List Record)
     → own_operation (receipts_of cpu h) ≡ own_operation (receipts_of cpu k)
     → own_operation (receipts_of cpu (h ++ more)) ≡ own_operation (receipts_of cpu (k ++ more))
 begun_on cpu h k more same =
-    ap own_operation (longer h)
-    ∙ (operation_more (receipts_of cpu h) (receipts_of cpu k) (receipts_of cpu more) same
-    ∙ sym (ap own_operation (longer k)))
-  where
-    longer : (news : List Record)
-        → receipts_of cpu (news ++ more) ≡ receipts_of cpu news ++ receipts_of cpu more
-    longer news =
-        ap (map receipt_of) (filter-append (λ (r : Record). eqb r.cpu cpu) news more)
-        ∙ map-append receipt_of (filter (λ (r : Record). eqb r.cpu cpu) news)
-        (filter (λ (r : Record). eqb r.cpu cpu) more)
+    rw (receipts_later cpu h more, receipts_later cpu k more)
+    (operation_more (receipts_of cpu h) (receipts_of cpu k) (receipts_of cpu more) same)
 
 pub record PlaysAlike (g : Setting) (k : List Record) (rest : List ℕ) (end : List Record) : Type 0 where
   pub other : List Record
@@ -231,22 +190,14 @@ replies_same : (h k : List Record) (all from n : ℕ) → from + n ≤ all
     ≡ map (λ cpu. replies_to cpu k) (range_with_len from n)
 replies_same h k all from zero within same = refl
 replies_same h k all from (suc n) within same =
-    ap (λ (xs : List Reply). xs ∷ map (λ cpu. replies_to cpu h) (range_with_len (from + 1) n)) (replies_shown
-    from
-    h ∙ (ap (map (λ (r : Receipt). told r.reply)) (same from (omega arith)) ∙ sym (replies_shown from k)))
-    ∙ ap (λ (rest : List (List Reply)). replies_to from k ∷ rest)
-    (replies_same h k all (from + 1) n (omega arith) same)
-
-abbrev outcome_of : Setting → List (List Reply) → Memory → OutcomeValue
-outcome_of g replies s = record { replies = replies; blocks = ended_rows_below g.layout.blocks s }
+    rw (replies_shown from h, same from (omega arith), ← replies_shown from k)
+    (rw (replies_same h k all (from + 1) n (omega arith) same))
 
 outcome_same : (g : Setting) (h k : List Record) → AreAlike g h k → outcome_after g h ≡ outcome_after g k
 unfolding outcome_after value_of
 outcome_same g h k alike =
-    ap (λ (replies : List (List Reply)). outcome_of g replies (run g.layout g.base (net_of (g.start ++ h))))
-    (replies_same h k (length g.scripts) 0 (length g.scripts) (omega arith) alike.exchanged)
-    ∙ ap (outcome_of g (replies_below (length g.scripts) k))
-    alike.nets.state
+    rw (replies_same h k (length g.scripts) 0 (length g.scripts) (omega arith) alike.exchanged)
+    (rw alike.nets.state)
 
 -- ---- complete schedules
 

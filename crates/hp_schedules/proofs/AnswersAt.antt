@@ -1,6 +1,5 @@
 -- Answers at the positions of all processors.
-use Rattle.std.proofs.Common.{◌≡◌, ℕ, List, [], ◌∷◌, ◌++◌, length, Option, Some, slice_get, refl, ap, sym, subst, ◌∙◌}
-use Rattle.std.specs.Option.{option_map_or}
+use Rattle.std.proofs.Common.{◌≡◌, ℕ, List, [], ◌∷◌, ◌++◌, length, Option, Some, slice_get, refl, ap, sym, ◌∙◌}
 use Rattle.hp_units.specs.Receipts.{receipt_of, receipts_of}
 use Rattle.hp_units.specs.declared.replies.Receipt.{Receipt}
 use Rattle.hp_units.specs.declared.replies.Record.{Record}
@@ -10,7 +9,6 @@ use Rattle.hp_schedules.specs.Schedules.{Setting, next_call}
 use Rattle.hp_schedules.specs.Scripts.{next_of}
 use Rattle.hp_schedules.specs.declared.cursors.Cursor.{Cursor}
 use Rattle.hp_schedules.specs.declared.line_answers.FinishedLine.{FinishedLine}
-use Rattle.hp_schedules.specs.declared.line_answers.LineAnswer.{LineAnswer}
 use Rattle.hp_schedules.specs.declared.scripts.Step.{Step}
 use Rattle.hp_schedules.proofs.Placed.{asked_is}
 use Rattle.hp_schedules.proofs.Steps.{receipts_own}
@@ -20,9 +18,7 @@ pub of_script : (g : Setting) (cpu : ℕ) (news : List Record) (lines : List Ste
     → slice_get g.scripts cpu ≡ Some lines
     → answers_at g cpu news ≡ answers_in g.layout.cpus lines (receipts_of cpu news)
 unfolding answers_at
-of_script g cpu news lines here =
-    ap (λ (o : Option (List Step)).
-    option_map_or (λ ls. answers_in g.layout.cpus ls (receipts_of cpu news)) o []) here
+of_script g cpu news lines here = rw here
 
 -- as they are read
 pub within_shown : (g : Setting) (cpu : ℕ) (scripts : List (List Step)) (lines shown : List Step)
@@ -56,17 +52,11 @@ pub answered_at : (g : Setting) (news : List Record) (r : Record) (scripts : Lis
     → IsAnswered (answers_in cpus shown receipts) f (answers_in cpus shown (receipts ++ x ∷ [])))
     → IsAnswered (answers_at g r.cpu news) f (answers_at g r.cpu (news ++ r ∷ []))
 answered_at g news r scripts lines shown cursors cursor f scripts_is here same there called all answers =
-    subst (λ (old : List (Option LineAnswer)). IsAnswered old f (answers_at g r.cpu (news ++ r ∷ [])))
-    (sym (of_script g r.cpu news shown within))
-    (subst (IsAnswered (answers_in g.layout.cpus shown (receipts_of r.cpu news)) f)
-    (sym (of_script g r.cpu (news ++ r ∷ []) shown within
-    ∙ ap (answers_in g.layout.cpus shown) (receipts_own news r)))
-    (answers g.layout.cpus (receipts_of r.cpu news) (receipt_of r) refl
+    rw (of_script g r.cpu news shown within, of_script g r.cpu (news ++ r ∷ []) shown within)
+    (rw (receipts_own news r) (answers g.layout.cpus (receipts_of r.cpu news) (receipt_of r) refl
     (sym (asked_is g news g.layout.cpus r.cpu shown
-    (next_of g.layout.cpus shown (receipts_of r.cpu news)) refl
-    within refl) ∙ called)
-    (subst (λ (rs : List Receipt). IsCursor g.layout.cpus shown rs cursor) (receipts_own news r)
-    (all.each r.cpu shown cursor within there))
+    (next_of g.layout.cpus shown (receipts_of r.cpu news)) refl within refl) ∙ called)
+    (rw (receipts_own news r) at (all.each r.cpu shown cursor within there))
     (all.settled r.cpu shown cursor within there)))
   where
     within : slice_get g.scripts r.cpu ≡ Some shown

@@ -1,11 +1,12 @@
 -- How many schedules there are of one of two kinds, and of those that continue another place.
-use Rattle.std.proofs.Common.{◌≡◌, ℕ, zero, suc, ◌+◌, List, [], ◌∷◌, ◌++◌, length, map, drop, Option, Some, None, slice_get, refl, ap, sym, subst, ◌∙◌, arith, inl, inr}
+use Rattle.std.proofs.Common.{◌≡◌, ℕ, zero, suc, ◌+◌, List, [], ◌∷◌, ◌++◌, length, map, drop, Some, slice_get, refl, ap, sym, subst, ◌∙◌, arith, inl, inr}
 use Rattle.std.specs.Prelude.{◌⊎◌, option_map}
 use Rattle.std.proofs.lemmas.List.{length-map}
-use Rattle.std.proofs.lemmas.Option.{same_Some, slice_get-map}
+use Rattle.std.proofs.lemmas.Option.{none-some, same_Some, slice_get-map}
 use Rattle.hp_schedules.specs.Orders.{Extends, HasCount}
 use Rattle.hp_schedules.proofs.Counting.{none_listed, same_count}
 use Rattle.hp_schedules.proofs.Counts.{one_more}
+use Rattle.hp_renumbering.proofs.Options.{cases_option}
 use Rattle.hp_schedules.proofs.Uniqueness.{only_count}
 
 -- ---- those of one kind among a list's
@@ -37,11 +38,8 @@ sides_of P Q [] apart side once = record {
     none s h = cc
 sides_of P Q (x ∷ all) apart side once =
     by_side (side 0 x refl) (sides_of P Q all apart (λ i s h. side (suc i) s h)
-    (λ i j s h k. lower i j (once (suc i) (suc j) s h k)))
+    (λ i j s h k. omega (arith, once (suc i) (suc j) s h k)))
   where
-    lower : (i j : ℕ) → suc i ≡ suc j → i ≡ j
-    lower i j h = omega arith
-
     fresh : IsIn all x → ⊥
     fresh h = let same : 0 ≡ suc h.0 = once 0 (suc h.0) x refl h.1 in omega arith
 
@@ -55,14 +53,12 @@ sides_of P Q (x ∷ all) apart side once =
     longer : (s : List ℕ) → IsIn all s → IsIn (x ∷ all) s
     longer s h = (suc h.0, h.1)
 
-    here : (s : List ℕ) → s ≡ x → IsIn (x ∷ all) s
-    here s same = (0, ap Some (sym same))
-
     more : (R : List ℕ → Type 0) (n : ℕ) → R x → HasCount (λ s. IsIn all s × R s) n
         → HasCount (λ s. IsIn (x ∷ all) s × R s) (n + 1)
     more R n this counted =
         same_count (λ s. (IsIn all s × R s) ⊎ (s ≡ x)) (λ s. IsIn (x ∷ all) s × R s) (n + 1)
-        (λ s h. elim h [ inl e ↦ (longer s e.0, e.1) | inr same ↦ (here s same, subst R (sym same) this) ])
+        (λ s h. elim h
+        [ inl e ↦ (longer s e.0, e.1) | inr same ↦ ((0, ap Some (sym same)), subst R (sym same) this) ])
         (λ s h. elim (was_in s h.0) [ inl e ↦ inl (e, h.1) | inr same ↦ inr same ])
         (one_more (λ s. IsIn all s × R s) n x (λ h. fresh h.0) counted)
 
@@ -115,10 +111,7 @@ after (c ∷ p) rest = after p rest
 
 left_out : (q s t : List ℕ) → q ++ s ≡ q ++ t → s ≡ t
 left_out [] s t h = h
-left_out (c ∷ q) s t h = left_out q s t (tails (q ++ s) (q ++ t) h)
-  where
-    tails : (a b : List ℕ) → c ∷ a ≡ c ∷ b → a ≡ b
-    tails a b h = cc
+left_out (c ∷ q) s t h = let same : q ++ s ≡ q ++ t = cc in left_out q s t same
 
 pub moved : (P Q : List ℕ → Type 0) (p q : List ℕ) (n : ℕ) → ((rest : List ℕ) → P (p ++ rest) → Q (q ++ rest))
     → ((rest : List ℕ) → Q (q ++ rest) → P (p ++ rest)) → HasCount (λ s. Extends s p × P s) n
@@ -133,17 +126,14 @@ moved P Q p q n to from counted = (
     shift s = q ++ drop (length p) s
 
     shifted : (s rest : List ℕ) → s ≡ p ++ rest → shift s ≡ q ++ rest
-    shifted s rest is =
-        ap (λ (t : List ℕ). q ++ drop (length p) t) is ∙ ap (λ (t : List ℕ). q ++ t) (after p rest)
-
-    read : (o : Option (List ℕ)) (s : List ℕ) → option_map shift o ≡ Some s
-        → (t : List ℕ) × (shift t ≡ s) × (o ≡ Some t)
-    read None s h = absurd cc
-    read (Some t) s h = (t, same_Some (shift t) s h, refl)
+    shifted s rest is = rw (is, after p rest)
 
     shown : (i : ℕ) (s : List ℕ) → slice_get (map shift counted.0) i ≡ Some s
         → (t : List ℕ) × (shift t ≡ s) × (slice_get counted.0 i ≡ Some t)
-    shown i s h = read (slice_get counted.0 i) s (sym (slice_get-map shift counted.0 i) ∙ h)
+    shown i s h = elim (cases_option (slice_get counted.0 i)) [
+      | inl none ↦ absurd (none-some s (rw (slice_get-map shift counted.0 i, none) at h))
+      | inr t ↦ (t.0, same_Some (shift t.0) s (rw (slice_get-map shift counted.0 i, t.1) at h), t.1)
+    ]
 
     each : (i : ℕ) (s : List ℕ) → slice_get (map shift counted.0) i ≡ Some s → Extends s q × Q s
     each i s h =

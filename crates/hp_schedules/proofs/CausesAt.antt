@@ -1,8 +1,7 @@
 -- The last refusal of the plan in progress: its numbers, and where it is.
 use Rattle.std.proofs.Common.{◌≡◌, ℕ, ◌+◌, Bool, true, false, cond, List, [], ◌∷◌, ◌++◌, length, take, drop, get_or, Option, Some, None, Result, Ok, Err, slice_get, refl, ap, sym, ◌∙◌}
-use Rattle.std.specs.Option.{option_map_or}
 use Rattle.std.specs.Prelude.{OnOk, if◌then◌else◌, is_ok}
-use Rattle.std.proofs.lemmas.List.{append-nil, take-append-drop}
+use Rattle.std.proofs.lemmas.List.{take-append-drop}
 use Rattle.std.proofs.Math.ListN.{drop_of_length-le}
 use Rattle.hp_ops.specs.Stages.{is_over}
 use Rattle.hp_units.specs.Receipts.{receipts_of}
@@ -19,9 +18,8 @@ use Rattle.hp_schedules.specs.declared.scripts.Step.{Step}
 use Rattle.hp_schedules.specs.declared.scripts.Step.TheVariants.{Ask, Own, Carry}
 use Rattle.hp_schedules.proofs.AfterLines.{first_then}
 use Rattle.hp_schedules.proofs.AnswersAt.{within_shown}
-use Rattle.hp_schedules.proofs.Asked.{at_first, lines_here, own_over}
+use Rattle.hp_schedules.proofs.Asked.{at_first, lines_here, own_over, plan_on}
 use Rattle.hp_schedules.proofs.Begun.{asks_none, asks_some}
-use Rattle.hp_schedules.proofs.Lines.{goes_on_all}
 use Rattle.hp_schedules.proofs.UpTo.{past_end}
 
 -- ---- the numbers
@@ -39,60 +37,16 @@ abbrev cause_by : List ℕ → Option Refusal
 cause_by numbers = get_or (causes_naming (get_or numbers 1 0)) (get_or numbers 0 0) None
 
 read_back : (why : Option Refusal) → cause_by (cause_numbers why) ≡ why
-read_back None = refl
 read_back (Some NoOwner) = refl
-read_back (Some NoPage) = refl
-read_back (Some NoWord) = refl
-read_back (Some AlreadyMapped) = refl
-read_back (Some NotMapped) = refl
-read_back (Some BadOrder) = refl
-read_back (Some NoFrame) = refl
-read_back (Some NoSuchFrame) = refl
-read_back (Some NotKernel) = refl
-read_back (Some NoCpu) = refl
-read_back (Some NoBlock) = refl
-read_back (Some EmptyPlan) = refl
-read_back (Some (Twice block)) = refl
-read_back (Some (Busy block)) = refl
-read_back (Some (NotOnline block)) = refl
-read_back (Some (NotOffline block)) = refl
-read_back (Some (Unmovable frame)) = refl
-read_back (Some NoOp) = refl
-read_back (Some NothingToMove) = refl
-read_back (Some (NotFree frame)) = refl
-read_back (Some Gone) = refl
-read_back (Some BadAddress) = refl
-read_back (Some (NotAbsent block)) = refl
+read_back why = refl
 
 -- equal numbers are of one cause
 pub same_cause : (why other : Option Refusal) → cause_numbers why ≡ cause_numbers other → why ≡ other
 same_cause why other same = sym (read_back why) ∙ (ap cause_by same ∙ read_back other)
 
 pub two_numbers : (why : Option Refusal) → length (cause_numbers why) ≡ 2
-two_numbers None = refl
 two_numbers (Some NoOwner) = refl
-two_numbers (Some NoPage) = refl
-two_numbers (Some NoWord) = refl
-two_numbers (Some AlreadyMapped) = refl
-two_numbers (Some NotMapped) = refl
-two_numbers (Some BadOrder) = refl
-two_numbers (Some NoFrame) = refl
-two_numbers (Some NoSuchFrame) = refl
-two_numbers (Some NotKernel) = refl
-two_numbers (Some NoCpu) = refl
-two_numbers (Some NoBlock) = refl
-two_numbers (Some EmptyPlan) = refl
-two_numbers (Some (Twice block)) = refl
-two_numbers (Some (Busy block)) = refl
-two_numbers (Some (NotOnline block)) = refl
-two_numbers (Some (NotOffline block)) = refl
-two_numbers (Some (Unmovable frame)) = refl
-two_numbers (Some NoOp) = refl
-two_numbers (Some NothingToMove) = refl
-two_numbers (Some (NotFree frame)) = refl
-two_numbers (Some Gone) = refl
-two_numbers (Some BadAddress) = refl
-two_numbers (Some (NotAbsent block)) = refl
+two_numbers why = refl
 
 -- they are appended
 pub extended : {T E : Type 0} (r : Result T E) (old new piece numbers : List ℕ)
@@ -105,22 +59,16 @@ extended (Err fault) old new piece numbers is same = tt
 pub cause_over : (cpus : ℕ) (line : Step) (lines : List Step) (receipts rest : List Receipt)
     → after_line cpus nothing_known line [] receipts ≡ Some rest
     → cause_in cpus (line ∷ lines) receipts ≡ cause_in cpus lines rest
-cause_over cpus line lines receipts rest is =
-    ap (λ (o : Option (List Receipt)). option_map_or (λ left. cause_in cpus lines left) o
-    (cause_in_line line receipts)) is
+cause_over cpus line lines receipts rest is = rw is
 
 pub cause_on : (cpus : ℕ) (line : Step) (lines : List Step) (receipts : List Receipt)
     → after_line cpus nothing_known line [] receipts ≡ None
     → cause_in cpus (line ∷ lines) receipts ≡ cause_in_line line receipts
-cause_on cpus line lines receipts is =
-    ap (λ (o : Option (List Receipt)). option_map_or (λ left. cause_in cpus lines left) o
-    (cause_in_line line receipts)) is
+cause_on cpus line lines receipts is = rw is
 
 none_met : (cpus : ℕ) (lines : List Step) → cause_in cpus lines [] ≡ None
-none_met cpus [] = refl
 none_met cpus (Ask event ∷ lines) = refl
-none_met cpus (Own work ∷ lines) = refl
-none_met cpus (Carry plan turns ∷ lines) = refl
+none_met cpus lines = refl
 
 -- ---- at a cursor
 
@@ -128,10 +76,7 @@ none_met cpus (Carry plan turns ∷ lines) = refl
 pub cause_past : (cpus : ℕ) (lines others : List Step) (receipts rest : List Receipt)
     → after_lines cpus nothing_known lines receipts ≡ Some rest
     → cause_in cpus (lines ++ others) receipts ≡ cause_in cpus others rest
-cause_past cpus [] others receipts rest is = ap (cause_in cpus others) (same_rest is)
-  where
-    same_rest : Some receipts ≡ Some rest → receipts ≡ rest
-    same_rest same = cc
+cause_past cpus [] others receipts rest is = cc
 cause_past cpus (line ∷ lines) others receipts rest is =
     let parts = first_then cpus nothing_known line lines receipts rest is in
     cause_over cpus line (lines ++ others) receipts parts.left parts.first
@@ -147,42 +92,33 @@ cause_from cpus lines receipts c is =
 -- what its own line met
 met_in : (cpus : ℕ) (line : Step) (lines : List Step) (own : List Receipt) (c : Cursor)
     → IsInFirst cpus (line ∷ lines) own c.driver → cause_in cpus (line ∷ lines) own ≡ met_at c line
-met_in cpus (Ask event) lines own c at =
-    ap (cause_in cpus (Ask event ∷ lines)) at.0 ∙ none_met cpus (Ask event ∷ lines)
-met_in cpus (Own work) lines own c at =
-    ap (cause_in cpus (Own work ∷ lines)) at.0 ∙ none_met cpus (Own work ∷ lines)
-met_in cpus (Carry plan turns) lines own c at = by_end (is_over c.driver.stage) refl
+met_in cpus (Ask event) lines own c first = rw first.0
+met_in cpus (Own work) lines own c first = rw first.0
+met_in cpus (Carry plan turns) lines own c first = by_end (is_over c.driver.stage) refl
   where
     by_end : (b : Bool) → is_over c.driver.stage ≡ b
         → cause_in cpus (Carry plan turns ∷ lines) own ≡ cond b None c.driver.why
     by_end true over =
         cause_over cpus (Carry plan turns) lines own []
-        (own_over cpus nothing_known [] (Carry plan turns) lines own c at
+        (own_over cpus nothing_known [] (Carry plan turns) lines own c first
         (asks_none c.driver.stage plan over))
         ∙ none_met cpus lines
     by_end false on =
         let next = asks_some c.driver.stage plan on in
-        cause_on cpus (Carry plan turns) lines own
-        (ap (after_line cpus nothing_known (Carry plan turns) []) (sym (append-nil own))
-        ∙ (at.1 nothing_known [] ∙ goes_on_all cpus nothing_known (Carry plan turns) own next.0
-        (sym (at.0.next plan) ∙ next.1)))
-        ∙ sym at.0.why
+        rw (plan_on cpus turns nothing_known plan lines own c.driver next.0 first next.1, first.0.why)
 
 pub cause_past_end : (cpus : ℕ) (lines : List Step) (receipts : List Receipt) (c : Cursor)
     → slice_get lines c.line ≡ None → IsCursor cpus lines receipts c
     → None ≡ cause_in cpus lines receipts
 cause_past_end cpus lines receipts c here is =
-    sym (cause_from cpus lines receipts c is
-    ∙ ap (λ (ls : List Step). cause_in cpus ls is.own)
-    (drop_of_length-le lines (past_end lines c.line here)))
+    rw (cause_from cpus lines receipts c is, drop_of_length-le lines (past_end lines c.line here))
 
 pub cause_here : (cpus : ℕ) (lines : List Step) (receipts : List Receipt) (c : Cursor) (line : Step)
     → slice_get lines c.line ≡ Some line → IsCursor cpus lines receipts c
     → met_at c line ≡ cause_in cpus lines receipts
 cause_here cpus lines receipts c line here is =
-    sym (cause_from cpus lines receipts c is
-    ∙ (ap (λ (ls : List Step). cause_in cpus ls is.own) (lines_here lines c.line line here)
-    ∙ met_in cpus line (drop (c.line + 1) lines) is.own c (at_first cpus lines receipts c line is here)))
+    rw (cause_from cpus lines receipts c is, lines_here lines c.line line here)
+    (sym (met_in cpus line (drop (c.line + 1) lines) is.own c (at_first cpus lines receipts c line is here)))
 
 -- ---- of a processor
 
@@ -190,9 +126,7 @@ pub cause_of_script : (g : Setting) (cpu : ℕ) (news : List Record) (lines : Li
     → slice_get g.scripts cpu ≡ Some lines
     → cause_at g cpu news ≡ cause_in g.layout.cpus lines (receipts_of cpu news)
 unfolding cause_at
-cause_of_script g cpu news lines here =
-    ap (λ (o : Option (List Step)).
-    option_map_or (λ ls. cause_in g.layout.cpus ls (receipts_of cpu news)) o None) here
+cause_of_script g cpu news lines here = rw (here, cause_at)
 
 pub caused_at : (g : Setting) (cpu : ℕ) (news : List Record) (scripts : List (List Step))
     (lines shown : List Step) (cursors : List Cursor) (cursor : Cursor) (why : Option Refusal)

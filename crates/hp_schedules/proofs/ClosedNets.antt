@@ -1,17 +1,18 @@
 -- Nets that no later Cancel can drop.
-use Rattle.std.proofs.Common.{◌≡◌, ℕ, suc, ◌+◌, Bool, true, false, cond, eqb, List, [], ◌∷◌, ◌++◌, length, map, Option, Some, None, refl, ap, sym, subst, ◌∙◌, arith}
+use Rattle.std.proofs.Common.{◌≡◌, ℕ, suc, ◌+◌, Bool, true, false, List, [], ◌∷◌, ◌++◌, length, map, Option, Some, None, refl, ap, sym, ◌∙◌, arith, inl, inr}
 use Rattle.std.specs.Prelude.{◌&&◌, fold, option_map}
+use Rattle.std.proofs.lemmas.Bool.{cases_Bool}
 use Rattle.std.proofs.lemmas.List.{append-nil, append_assoc, length_push}
 use Rattle.hp_units.specs.History.{effect_of, is_refused, net_of, net_with, net_with_effect}
 use Rattle.hp_units.specs.Marks.{begins, holds_only_own_work, is_opening, is_work_of, mark_of, sole_at, tag_of}
 use Rattle.hp_units.specs.declared.events.Event.{Event}
 use Rattle.hp_units.specs.declared.events.Event.TheVariants.{Read, Begin, DrainFor, Migrate, Cancel, UndoAfter}
-use Rattle.hp_units.specs.declared.marks.Mark.{Mark}
 use Rattle.hp_units.specs.declared.marks.Mark.TheVariants.{Other}
 use Rattle.hp_units.specs.declared.replies.Record.{Record}
 use Rattle.hp_laws.proofs.Records.{with_good}
 use Rattle.hp_laws.proofs.Replays.{net_bad}
 use Rattle.hp_schedules.specs.Alike.{IsClosed, closed_after, closed_by, is_closed}
+use Rattle.hp_renumbering.proofs.Options.{cases_option}
 
 -- a place further on
 further_on : (n m : ℕ) (o : Option ℕ) → n + 1 ≡ m
@@ -35,26 +36,20 @@ closed_none op tail = no_further (sole_at op (map tag_of tail))
 passed : (op : ℕ) (r : Record) (tail : List Record) → is_opening (mark_of r.event) ≡ false
     → sole_at op (map tag_of (r ∷ tail)) ≡ option_map suc (sole_at op (map tag_of tail))
 unfolding sole_at
-passed op r tail is =
-    ap (λ (b : Bool). cond ((b && eqb r.serial op) && holds_only_own_work op (map tag_of tail)) (Some 0)
-    (option_map suc (sole_at op (map tag_of tail)))) is
+passed op r tail is = rw is
 
 -- so such a step keeps them closed
 pub closed_push : (a : List Record) (r : Record) → is_opening (mark_of r.event) ≡ false → IsClosed a
     → IsClosed (a ++ r ∷ [])
 closed_push a r is closed op tail =
-    ap (λ (net : List Record). sole_at op (map tag_of net)) (append_assoc a (r ∷ []) tail)
-    ∙ (closed op (r ∷ tail)
-    ∙ (ap (option_map (λ place. length a + place)) (passed op r tail is)
-    ∙ further_on (length a) (length (a ++ r ∷ [])) (sole_at op (map tag_of tail)) (sym (length_push a r))))
+    rw (append_assoc a (r ∷ []) tail, closed op (r ∷ tail), passed op r tail is)
+    (further_on (length a) (length (a ++ r ∷ [])) (sole_at op (map tag_of tail)) (sym (length_push a r)))
 
 -- a step of no operation is no operation's own work
 not_own : (op : ℕ) (a : List Record) (r : Record) (tail : List Record) → mark_of r.event ≡ Other
     → holds_only_own_work op (map tag_of (a ++ r ∷ tail)) ≡ false
-not_own op [] r tail is = ap (λ (m : Mark). is_work_of op m && holds_only_own_work op (map tag_of tail)) is
-not_own op (t ∷ a) r tail is =
-    ap (λ (b : Bool). is_work_of op (mark_of t.event) && b) (not_own op a r tail is)
-    ∙ and_false (is_work_of op (mark_of t.event))
+not_own op [] r tail is = rw is
+not_own op (t ∷ a) r tail is = rw (not_own op a r tail is) (and_false (is_work_of op (mark_of t.event)))
 
 -- so it closes whatever was before
 sole_after : (op : ℕ) (a : List Record) (r : Record) (tail : List Record) → mark_of r.event ≡ Other
@@ -62,53 +57,34 @@ sole_after : (op : ℕ) (a : List Record) (r : Record) (tail : List Record) → 
     ≡ option_map (λ place. length (a ++ r ∷ []) + place) (sole_at op (map tag_of tail))
 unfolding sole_at
 sole_after op [] r tail is =
-    passed op r tail (ap is_opening is) ∙ by_place (sole_at op (map tag_of tail))
-  where
-    by_place : (o : Option ℕ) → option_map suc o ≡ option_map (λ place. 1 + place) o
-    by_place None = refl
-    by_place (Some place) = ap Some (omega arith)
+    rw (passed op r tail (ap is_opening is)) (elim (cases_option (sole_at op (map tag_of tail)))
+    [ inl none ↦ rw none | inr place ↦ rw place.1 (ap Some (omega arith)) ])
 sole_after op (t ∷ a) r tail is =
-    ap (λ (b : Bool). cond (begins op (tag_of t) && b) (Some 0)
-    (option_map suc (sole_at op (map tag_of (a ++ r ∷ tail))))) (not_own op a r tail is)
-    ∙ (ap (λ (b : Bool). cond b (Some 0) (option_map suc (sole_at op (map tag_of (a ++ r ∷ tail)))))
-    (and_false (begins op (tag_of t)))
-    ∙ (ap (option_map suc) (sole_after op a r tail is) ∙ by_place (sole_at op (map tag_of tail))))
-  where
-    by_place : (o : Option ℕ)
-        → option_map suc (option_map (λ place. length (a ++ r ∷ []) + place) o)
-        ≡ option_map (λ place. suc (length (a ++ r ∷ [])) + place) o
-    by_place None = refl
-    by_place (Some place) = ap Some (omega arith)
+    rw (not_own op a r tail is, and_false (begins op (tag_of t)), sole_after op a r tail is)
+    (elim (cases_option (sole_at op (map tag_of tail)))
+    [ inl none ↦ rw none | inr place ↦ rw place.1 (ap Some (omega arith)) ])
 
 pub closed_all : (a : List Record) (r : Record) → mark_of r.event ≡ Other → IsClosed (a ++ r ∷ [])
-closed_all a r is op tail =
-    ap (λ (net : List Record). sole_at op (map tag_of net)) (append_assoc a (r ∷ []) tail)
-    ∙ sole_after op a r tail is
+closed_all a r is op tail = rw (append_assoc a (r ∷ []) tail) (sole_after op a r tail is)
 
 -- one record more of the history
 closed_more : (net : List Record) (r : Record) (was : Bool) → (was ≡ true → IsClosed net)
     → closed_after was r ≡ true → IsClosed (net_with net r)
-closed_more net r was so_far is = by_reply (is_refused r.reply) refl
+closed_more net r was so_far is =
+    elim (cases_Bool (is_refused r.reply)) [
+      | inl h ↦ rw (← net_bad net r h) (so_far (rw h at is))
+      | inr h ↦ rw (with_good net r h) (by_event r.event refl (rw h at is))
+    ]
   where
     by_event : (e : Event) → r.event ≡ e → closed_by was e ≡ true
         → IsClosed (net_with_effect net r (effect_of e))
     by_event (Read owner page index) same told = so_far told
-    by_event (DrainFor op cpu) same told =
-        closed_push net r (ap (λ (e : Event). is_opening (mark_of e)) same) (so_far told)
-    by_event (Migrate op) same told =
-        closed_push net r (ap (λ (e : Event). is_opening (mark_of e)) same) (so_far told)
+    by_event (DrainFor op cpu) same told = closed_push net r (rw same) (so_far told)
+    by_event (Migrate op) same told = closed_push net r (rw same) (so_far told)
     by_event (Begin plan) same told = absurd cc
     by_event (Cancel op) same told = absurd cc
     by_event (UndoAfter serial) same told = absurd cc
     by_event e same told = closed_all net r (ap mark_of same)
-
-    by_reply : (refused : Bool) → is_refused r.reply ≡ refused → IsClosed (net_with net r)
-    by_reply true h =
-        subst IsClosed (net_bad net r h)
-        (so_far (sym (ap (λ (b : Bool). cond b was (closed_by was r.event)) h) ∙ is))
-    by_reply false h =
-        subst IsClosed (sym (with_good net r h))
-        (by_event r.event refl (sym (ap (λ (b : Bool). cond b was (closed_by was r.event)) h) ∙ is))
 
 -- what the test says of a history
 pub closed_told : (history : List Record) → is_closed history ≡ true → IsClosed (net_of history)

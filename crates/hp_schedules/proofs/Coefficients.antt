@@ -1,8 +1,7 @@
 -- Multinomial coefficients, one turn more at a time.
-use Rattle.std.proofs.Common.{◌≡◌, ℕ, zero, suc, ◌+◌, ◌*◌, ◌/◌, ◌-◌, ◌<◌, ◌≤◌, List, [], ◌∷◌, ◌++◌, length, take, drop, get_or, refl, ap, sym, subst, ◌∙◌, arith, inl, inr}
-use Rattle.std.proofs.Math.Nat.{mul_assoc, mul_comm, mul_left_comm, mul_right_comm, mul-pos, mul-le-mul_left, le_of_mul-le-mul_right, eq_of_mul-eq-mul_left, div-eq_of_eq-mul_left}
+use Rattle.std.proofs.Common.{◌≡◌, ℕ, zero, suc, ◌+◌, ◌*◌, ◌/◌, ◌-◌, ◌<◌, ◌≤◌, List, [], ◌∷◌, ◌++◌, length, take, drop, get_or, add-one, refl, sym, arith}
+use Rattle.std.proofs.Math.Nat.{mul-pos, mul-le-mul_left, le_of_mul-le-mul_right, eq_of_mul-eq-mul_left, div-eq_of_eq-mul_left}
 use Rattle.std.proofs.lemmas.List.{append-nil, append_assoc, take-append-drop, take_all, take_more}
-use Rattle.std.proofs.lemmas.Bool.{cases_lt}
 use Rattle.std.proofs.lemmas.List.Sums.{sum_by_more_le, sum_by_push}
 use Rattle.hp_schedules.specs.Multinomials.{ExceedsWith, IsMultinomial, IsMultinomialWith, factorial, factorials, sum}
 use Rattle.hp_schedules.proofs.Interleaved.{AreInterleaved, interleaved}
@@ -17,21 +16,18 @@ factorials_positive (n ∷ ns) = mul-pos (factorial_positive n) (factorials_posi
 
 factorials_push : (ns : List ℕ) (n : ℕ) → factorials (ns ++ n ∷ []) ≡ factorials ns * factorial n
 factorials_push [] n = omega arith
-factorials_push (k ∷ ns) n =
-    ap (λ (f : ℕ). factorial k * f) (factorials_push ns n)
-    ∙ sym (mul_assoc (factorial k) (factorials ns) (factorial n))
+factorials_push (k ∷ ns) n = rw (factorials_push ns n) (omega arith)
 
 -- there is one coefficient
 pub only_one : (ns : List ℕ) (a b : ℕ) → IsMultinomial ns a → IsMultinomial ns b → a ≡ b
 only_one ns a b is also =
-    eq_of_mul-eq-mul_left (factorials ns) (factorials_positive ns) a b
-    (mul_comm (factorials ns) a ∙ (is ∙ (sym also ∙ mul_comm b (factorials ns))))
+    eq_of_mul-eq-mul_left (factorials ns) (factorials_positive ns) a b (omega (arith, is, also))
 
 -- with no turn of a further processor it is the same
 pub with_none : (ns : List ℕ) (m : ℕ) → IsMultinomial ns m → IsMultinomial (ns ++ 0 ∷ []) m
 with_none ns m is =
-    ap (λ (f : ℕ). m * f) (factorials_push ns 0 ∙ omega arith)
-    ∙ (is ∙ ap factorial (omega (arith, sum_by_push (λ (n : ℕ). n) ns 0)))
+    let same : sum ns + 0 ≡ sum ns = omega arith in
+    rw (factorials_push ns 0, sum_by_push (λ (n : ℕ). n) ns 0, same) (omega (arith, is))
 
 -- with one turn more
 abbrev pub IsNext : List ℕ → (turns m next : ℕ) → Type 0
@@ -40,97 +36,58 @@ IsNext ns turns m next =
 
 pub next_one : (ns : List ℕ) (turns m : ℕ) → IsMultinomial (ns ++ turns ∷ []) m
     → (next : ℕ) × IsNext ns turns m next
-next_one ns turns m is = (
-  one.0,
-  (
-    one.2,
-    eq_of_mul-eq-mul_left F (factorials_positive (ns ++ turns ∷ [])) (one.0 * suc turns)
-        (m * suc (sum ns + turns)) times,
-  ),
-)
+next_one ns turns m is =
+    let one : AreInterleaved (ns ++ suc turns ∷ []) =
+    interleaved (sum (ns ++ suc turns ∷ [])) (ns ++ suc turns ∷ []) refl in
+    (one.0, (one.2, times one.0 one.2))
   where
-    one : AreInterleaved (ns ++ suc turns ∷ [])
-    one = interleaved (sum (ns ++ suc turns ∷ [])) (ns ++ suc turns ∷ []) refl
-
-    F : ℕ
-    F = factorials (ns ++ turns ∷ [])
-
-    more : factorials (ns ++ suc turns ∷ []) ≡ suc turns * F
-    more =
-        factorials_push ns (suc turns)
-        ∙ (mul_left_comm (factorials ns) (suc turns) (factorial turns)
-        ∙ ap (λ (f : ℕ). suc turns * f) (sym (factorials_push ns turns)))
-
-    all : sum (ns ++ suc turns ∷ []) ≡ suc (sum ns + turns)
-    all = omega (arith, sum_by_push (λ (n : ℕ). n) ns (suc turns))
-
-    was : sum (ns ++ turns ∷ []) ≡ sum ns + turns
-    was = sum_by_push (λ (n : ℕ). n) ns turns
-
-    times : F * (one.0 * suc turns) ≡ F * (m * suc (sum ns + turns))
-    times =
-        mul_left_comm F one.0 (suc turns)
-        ∙ (ap (λ (f : ℕ). one.0 * f) (mul_comm F (suc turns) ∙ sym more)
-        ∙ (one.2
-        ∙ (ap factorial all
-        ∙ (ap (λ (f : ℕ). suc (sum ns + turns) * f) (sym (is ∙ ap factorial was))
-        ∙ (mul_comm (suc (sum ns + turns)) (m * F)
-        ∙ (mul_right_comm m F (suc (sum ns + turns)) ∙ mul_comm (m * suc (sum ns + turns)) F))))))
+    times : (next : ℕ) → IsMultinomial (ns ++ suc turns ∷ []) next
+        → next * suc turns ≡ m * suc (sum ns + turns)
+    times next also =
+        let all : sum (ns ++ suc turns ∷ []) ≡ suc (sum ns + turns) =
+        omega (arith, sum_by_push (λ (n : ℕ). n) ns (suc turns)) in
+        let was = rw (factorials_push ns turns, sum_by_push (λ (n : ℕ). n) ns turns) at is in
+        let now = rw (factorials_push ns (suc turns), all) at also in
+        eq_of_mul-eq-mul_left (factorials ns * factorial turns)
+        (mul-pos (factorials_positive ns) (factorial_positive turns)) (next * suc turns)
+        (m * suc (sum ns + turns)) (omega (arith, rw (← was) at now))
 
 -- which is no less
 next_up : (ns : List ℕ) (turns m next : ℕ) → IsNext ns turns m next → m ≤ next
 next_up ns turns m next is =
     let le : suc turns ≤ suc (sum ns + turns) = omega arith in
-    let all : m * suc turns ≤ m * suc (sum ns + turns) = mul-le-mul_left m le in
-    le_of_mul-le-mul_right (subst (λ (k : ℕ). m * suc turns ≤ k) (sym is.1) all) (omega arith)
+    le_of_mul-le-mul_right (rw (← is.1) at (mul-le-mul_left m le)) (omega arith)
 
 -- and is found by a division
 pub next_found : (ns : List ℕ) (turns m next total : ℕ) → sum ns ≡ total → IsNext ns turns m next
     → m * (total + turns + 1) / (turns + 1) ≡ next
-next_found ns turns m next total all is = div-eq_of_eq-mul_left (omega arith) (shown ∙ sym is.1 ∙ plain)
-  where
-    shown : m * (total + turns + 1) ≡ m * suc (sum ns + turns)
-    shown = ap (λ (k : ℕ). m * k) (omega (arith, all))
-
-    plain : next * suc turns ≡ next * (turns + 1)
-    plain = ap (λ (k : ℕ). next * k) (omega arith)
+next_found ns turns m next total all is =
+    rw (← all) (div-eq_of_eq-mul_left (omega arith) (omega (arith, is.1)))
 
 -- with more turns it is no less
-pub turns_up : (ns : List ℕ) (turns more a b : ℕ) → IsMultinomial (ns ++ turns ∷ []) a
-    → IsMultinomial (ns ++ (turns + more) ∷ []) b → a ≤ b
-turns_up ns turns zero a b is also =
-    let same : turns + 0 ≡ turns = omega arith in
-    omega (
-      arith,
-      only_one (ns ++ turns ∷ []) a b is (subst (λ (k : ℕ). IsMultinomial (ns ++ k ∷ []) b) same also),
-    )
-turns_up ns turns (suc more) a b is also =
+turns_up : (ns : List ℕ) (more turns all a b : ℕ) → all ≡ turns + more → IsMultinomial (ns ++ turns ∷ []) a
+    → IsMultinomial (ns ++ all ∷ []) b → a ≤ b
+turns_up ns zero turns all a b whole is also =
+    let same : all ≡ turns = omega arith in
+    omega (arith, only_one (ns ++ turns ∷ []) a b is (rw same at also))
+turns_up ns (suc more) turns all a b whole is also =
     let next = next_one ns turns a is in
-    let same : turns + suc more ≡ suc turns + more = omega arith in
     omega (
       arith,
       next_up ns turns a next.0 next.1,
-      turns_up ns (suc turns) more next.0 b next.1.0
-          (subst (λ (k : ℕ). IsMultinomial (ns ++ k ∷ []) b) same also),
+      turns_up ns more (suc turns) all next.0 b (omega arith) next.1.0 also,
     )
 
 -- and with more processors
 pub list_up : (ns ms : List ℕ) (a b : ℕ) → IsMultinomial ns a → IsMultinomial (ns ++ ms) b → a ≤ b
-list_up ns [] a b is also =
-    omega (arith, only_one ns a b is (subst (λ (ks : List ℕ). IsMultinomial ks b) (append-nil ns) also))
+list_up ns [] a b is also = omega (arith, only_one ns a b is (rw append-nil at also))
 list_up ns (k ∷ ms) a b is also =
     let one : AreInterleaved (ns ++ k ∷ []) = interleaved (sum (ns ++ k ∷ [])) (ns ++ k ∷ []) refl in
     omega (
       arith,
-      turns_up ns 0 k a one.0 (with_none ns a is)
-          (subst (λ (n : ℕ). IsMultinomial (ns ++ n ∷ []) one.0) (zeroed k) one.2),
-      list_up (ns ++ k ∷ []) ms
-          one.0 b one.2
-          (subst (λ (ks : List ℕ). IsMultinomial ks b) (sym (append_assoc ns (k ∷ []) ms)) also),
+      turns_up ns k 0 k a one.0 (omega arith) (with_none ns a is) one.2,
+      list_up (ns ++ k ∷ []) ms one.0 b one.2 (rw append_assoc also),
     )
-  where
-    zeroed : (k : ℕ) → k ≡ 0 + k
-    zeroed k = omega arith
 
 -- ---- as the code has them
 
@@ -139,13 +96,7 @@ pub with_next : (count total turn reached a b d : ℕ) → IsMultinomialWith cou
     → a ≡ reached → b ≡ total + turn + 1 → d ≡ turn + 1 → IsMultinomialWith count total (turn + 1) (a * b / d)
 with_next count total turn reached a b d so_far is_a is_b is_d ns all is =
     let next = next_one ns turn reached (so_far ns all is) in
-    let found : a * b / d ≡ next.0 =
-    ap (λ (k : ℕ). k * b / d) is_a
-    ∙ (ap (λ (k : ℕ). reached * k / d) is_b ∙ (ap (λ (k : ℕ). reached * (total + turn + 1) / k) is_d
-    ∙ next_found ns turn reached next.0 total all next.1)) in
-    let one : suc turn ≡ turn + 1 = omega arith in
-    subst (λ (m : ℕ). IsMultinomial (ns ++ (turn + 1) ∷ []) m) (sym found)
-    (subst (λ (k : ℕ). IsMultinomial (ns ++ k ∷ []) next.0) one next.1.0)
+    rw (is_a, is_b, is_d, next_found ns turn reached next.0 total all next.1, add-one) next.1.0
 
 -- which is above the limit
 pub with_exceeded : (count total length limit turn reached a b d e : ℕ) → turn < length
@@ -153,22 +104,13 @@ pub with_exceeded : (count total length limit turn reached a b d e : ℕ) → tu
     → e ≡ limit → e < a * b / d → ExceedsWith count total length limit
 with_exceeded count total length limit turn reached a b d e less so_far is_a is_b is_d is_e above ns m all is
     also =
-    let now : IsMultinomial (ns ++ (turn + 1) ∷ []) (a * b / d) =
-    with_next count total turn reached a b d so_far is_a is_b is_d ns all is in
-    let whole : length ≡ turn + 1 + (length - (turn + 1)) = omega arith in
-    omega (
-      arith,
-      above,
-      is_e,
-      turns_up ns (turn + 1) (length - (turn + 1)) (a * b / d) m now
-          (subst (λ (k : ℕ). IsMultinomial (ns ++ k ∷ []) m) whole also),
-    )
+    let now = with_next count total turn reached a b d so_far is_a is_b is_d ns all is in
+    omega (arith, turns_up ns (length - (turn + 1)) (turn + 1) length (a * b / d) m (omega arith) now also)
 
 -- after all turns
 pub with_ended : (count total length turn reached : ℕ) → turn ≡ length
     → IsMultinomialWith count total turn reached → IsMultinomialWith count total length reached
-with_ended count total length turn reached all so_far =
-    subst (λ (n : ℕ). IsMultinomialWith count total n reached) all so_far
+with_ended count total length turn reached all so_far = rw (← all) so_far
 
 -- ---- all lengths
 
@@ -177,27 +119,18 @@ pub exceeded : (ns : List ℕ) (m count total at limit : ℕ) → at < length ns
     → total ≡ sum (take at ns) → ExceedsWith count total (get_or ns at 0) limit → IsMultinomial ns m
     → limit < m
 exceeded ns m count total at limit within so_far all above is =
-    let one : AreInterleaved (take at ns ++ get_or ns at 0 ∷ []) =
-    interleaved (sum (take at ns ++ get_or ns at 0 ∷ [])) (take at ns ++ get_or ns at 0 ∷ []) refl in
+    let one : AreInterleaved (take (at + 1) ns) =
+    interleaved (sum (take (at + 1) ns)) (take (at + 1) ns) refl in
     omega (
       arith,
-      above (take at ns) one.0 (sym all) so_far one.2,
-      list_up (take at ns ++ get_or ns at 0 ∷ [])
-          (drop (at + 1) ns) one.0 m one.2
-          (subst (λ (ks : List ℕ). IsMultinomial ks m) (whole ns at within) is),
+      above (take at ns) one.0 (sym all) so_far (rw (← take_more ns at 0 within) one.2),
+      list_up (take (at + 1) ns) (drop (at + 1) ns) one.0 m one.2 (rw take-append-drop is),
     )
-  where
-    whole : (ns : List ℕ) (at : ℕ) → at < length ns
-        → ns ≡ (take at ns ++ get_or ns at 0 ∷ []) ++ drop (at + 1) ns
-    whole ns at within =
-        sym (take-append-drop (at + 1) ns)
-        ∙ ap (λ (ks : List ℕ). ks ++ drop (at + 1) ns) (take_more ns at 0 within)
 
 -- after all of them it is the coefficient
 pub all_counted : (ns : List ℕ) (count at : ℕ) → length ns ≤ at → IsMultinomial (take at ns) count
     → IsMultinomial ns count
-all_counted ns count at past so_far =
-    subst (λ (ks : List ℕ). IsMultinomial ks count) (take_all at ns past) so_far
+all_counted ns count at past so_far = rw (take_all at ns past) at so_far
 
 -- and where that is above the limit, so is any other
 pub all_exceed : (ns : List ℕ) (count at limit : ℕ) → length ns ≤ at → IsMultinomial (take at ns) count
@@ -209,14 +142,10 @@ all_exceed ns count at limit past so_far above m is =
 pub all_summed : (ns : List ℕ) (total at : ℕ) → length ns ≤ at → total ≡ sum (take at ns)
     → total < 18446744073709551616 → (total ≡ sum ns) × (sum ns < 18446744073709551616)
 all_summed ns total at past so_far fits =
-    let all : total ≡ sum ns = so_far ∙ ap sum (take_all at ns past) in
-    (all, omega (arith, fits, all))
+    let all = rw (take_all at ns past) at so_far in (all, omega arith)
 
 -- or those so far do not
 pub over_summed : (ns : List ℕ) (total at : ℕ) → at < length ns → total ≡ sum (take at ns)
     → (total + get_or ns at 0 < 18446744073709551616 → ⊥) → 18446744073709551616 ≤ sum ns
 over_summed ns total at within so_far over =
-    elim (cases_lt (total + get_or ns at 0) 18446744073709551616) [
-      | inl fits ↦ absurd (over fits)
-      | inr past ↦ omega (arith, so_far, past, sum_by_more_le (λ (n : ℕ). n) ns at 0 within)
-    ]
+    omega (arith, sum_by_more_le (λ (n : ℕ). n) ns at 0 within)

@@ -1,5 +1,6 @@
 -- Replies that are compared with what records tell, one by one.
-use Rattle.std.proofs.Common.{◌≡◌, ℕ, zero, suc, ◌+◌, ◌<◌, ◌≤◌, Bool, true, false, cond, List, [], ◌∷◌, ◌++◌, length, map, filter, take, get_or, eqb, Some, slice_get, refl, ap, sym, ◌∙◌, arith}
+use Rattle.std.proofs.Common.{◌≡◌, ℕ, zero, suc, ◌+◌, ◌<◌, ◌≤◌, Bool, true, false, cond, List, [], ◌∷◌, ◌++◌, length, take, get_or, eqb, Some, slice_get, ap, sym, ◌∙◌, arith, inl, inr}
+use Rattle.std.proofs.lemmas.Bool.{cases_Bool}
 use Rattle.std.proofs.lemmas.List.{append-nil, length-take-le, map-append}
 use Rattle.std.proofs.lemmas.List.Elements.{filter-append}
 use Rattle.std.proofs.lemmas.Option.{same_Some}
@@ -14,16 +15,7 @@ use Rattle.hp_schedules.proofs.Places.{replies_more}
 told_push : (cpu : ℕ) (h : List Record) (r : Record) (own : Bool) → eqb r.cpu cpu ≡ own
     → replies_to cpu (h ++ r ∷ []) ≡ replies_to cpu h ++ cond own (told r.reply ∷ []) []
 told_push cpu h r own is =
-    ap (map (λ (q : Record). told q.reply)) (filter-append (λ (q : Record). eqb q.cpu cpu) h (r ∷ []))
-    ∙ (map-append (λ (q : Record). told q.reply) (filter (λ (q : Record). eqb q.cpu cpu) h)
-    (filter (λ (q : Record). eqb q.cpu cpu) (r ∷ [])) ∙ ap (λ (xs : List Reply). replies_to cpu h ++ xs)
-    (one own is))
-  where
-    one : (b : Bool) → eqb r.cpu cpu ≡ b
-        → map (λ (q : Record). told q.reply) (filter (λ (q : Record). eqb q.cpu cpu) (r ∷ []))
-        ≡ cond b (told r.reply ∷ []) []
-    one true e = rw e refl
-    one false e = rw e refl
+    simp (filter-append, map-append) (rw is (elim (cases_Bool own) [ inl e ↦ rw e | inr e ↦ rw e ]))
 
 -- the record at a place tells the reply after those that its processor was told before
 told_at : (cpu : ℕ) (news : List Record) (k : ℕ) (r : Record) → slice_get news k ≡ Some r
@@ -33,14 +25,9 @@ told_at cpu [] k r here own = absurd cc
 told_at cpu (x ∷ news) zero r here own =
     rw (ap (λ (q : Record). eqb q.cpu cpu) (same_Some x r here) ∙ own)
     (ap (λ (q : Record). Some (told q.reply)) (same_Some x r here))
-told_at cpu (x ∷ news) (suc k) r here own = by_owner (eqb x.cpu cpu) refl (told_at cpu news k r here own)
-  where
-    by_owner : (b : Bool) → eqb x.cpu cpu ≡ b
-        → slice_get (replies_to cpu news) (length (replies_to cpu (take k news))) ≡ Some (told r.reply)
-        → slice_get (replies_to cpu (x ∷ news)) (length (replies_to cpu (take (suc k) (x ∷ news))))
-        ≡ Some (told r.reply)
-    by_owner true e later = rw e later
-    by_owner false e later = rw e later
+told_at cpu (x ∷ news) (suc k) r here own =
+    elim (cases_Bool (eqb x.cpu cpu))
+    [ inl e ↦ rw e (told_at cpu news k r here own) | inr e ↦ rw e (told_at cpu news k r here own) ]
 
 -- ---- as they are compared
 
@@ -49,19 +36,14 @@ pub replies_past : (cpu : ℕ) (replies : List Reply) (news : List Record) (k : 
     → slice_get news k ≡ Some r → eqb r.cpu cpu ≡ false → replies ≡ replies_to cpu (take k news)
     → replies ≡ replies_to cpu (take (k + 1) news)
 replies_past cpu replies news k r here other so_far =
-    so_far
-    ∙ (sym (append-nil (replies_to cpu (take k news)))
-    ∙ (sym (told_push cpu (take k news) r false other)
-    ∙ ap (replies_to cpu) (sym (take_one news k r here))))
+    rw (take_one news k r here, told_push cpu (take k news) r false other, append-nil) so_far
 
 -- one of its own tells it one reply
 pub replies_own : (cpu : ℕ) (replies : List Reply) (news : List Record) (k : ℕ) (r : Record)
     → slice_get news k ≡ Some r → eqb r.cpu cpu ≡ true → replies ≡ replies_to cpu (take k news)
     → replies ++ told r.reply ∷ [] ≡ replies_to cpu (take (k + 1) news)
 replies_own cpu replies news k r here own so_far =
-    ap (λ (xs : List Reply). xs ++ told r.reply ∷ []) so_far
-    ∙ (sym (told_push cpu (take k news) r true own)
-    ∙ ap (replies_to cpu) (sym (take_one news k r here)))
+    rw (take_one news k r here, told_push cpu (take k news) r true own, so_far)
 
 -- another processor's record tells nothing
 pub told_past : (cpu : ℕ) (replies : List Reply) (news : List Record) (n k : ℕ) (r : Record)
@@ -84,18 +66,15 @@ pub told_here : (cpu : ℕ) (replies : List Reply) (news : List Record) (n k : �
     → take n replies ≡ replies_to cpu (take k news) → replies ≡ replies_to cpu news
     → slice_get replies n ≡ Some (told r.reply)
 told_here cpu replies news n k r here own within so_far is =
-    ap (slice_get replies) (sym (length-take-le n replies within) ∙ ap length so_far)
-    ∙ (ap (λ (xs : List Reply). slice_get xs (length (replies_to cpu (take k news)))) is
-    ∙ told_at cpu news k r here own)
+    let many = sym (length-take-le n replies within) ∙ ap length so_far in
+    rw (many, is) (told_at cpu news k r here own)
 
 -- ---- all processors
 
 -- there are as many processors' replies as processors
 pub answered_length : (answers : List (List Reply)) (news : List Record) (processors : ℕ)
     → answers ≡ replies_below processors news → length answers ≡ processors
-answered_length answers news processors is =
-    ap (λ (xs : List (List Reply)). length xs) is
-    ∙ length-map-range_with_len (λ (c : ℕ). replies_to c news) 0 processors
+answered_length answers news processors is = rw (is, length-map-range_with_len)
 
 -- the list at a place is that of its processor
 pub answered_at : (answers : List (List Reply)) (news : List Record) (processors cpu : ℕ)
@@ -104,8 +83,7 @@ pub answered_at : (answers : List (List Reply)) (news : List Record) (processors
     → replies ≡ replies_to cpu news
 answered_at answers news processors cpu replies within here is =
     here
-    ∙ (ap (λ (xs : List (List Reply)). get_or xs cpu replies) is
-    ∙ get_or-map-range_with_len (λ (c : ℕ). replies_to c news) 0 processors cpu cpu replies within
+    ∙ rw is (get_or-map-range_with_len (λ (c : ℕ). replies_to c news) 0 processors cpu cpu replies within
     (omega arith))
 
 -- one list more

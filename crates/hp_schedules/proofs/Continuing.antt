@@ -1,24 +1,23 @@
 -- After two beginnings that continue alike each continuation is played call for call.
-use Rattle.std.proofs.Common.{◌≡◌, ℕ, true, List, [], ◌∷◌, ◌++◌, map, Option, Some, None, slice_get, refl, ap, sym, subst, ◌∙◌}
+use Rattle.std.proofs.Common.{◌≡◌, ℕ, List, [], ◌∷◌, ◌++◌, map, Option, Some, None, refl, ap, sym, ◌∙◌, inl, inr}
 use Rattle.std.specs.Prelude.{fold, option_map}
-use Rattle.std.specs.List.{range_with_len}
 use Rattle.std.proofs.lemmas.List.{append-nil, append_assoc}
 use Rattle.std.proofs.lemmas.Option.{none-some, same_Some, slice_get-map}
-use Rattle.hp_units.specs.History.{effect_of, net_of, run, value_of}
+use Rattle.hp_units.specs.History.{net_of, run, value_of}
 use Rattle.hp_units.specs.Memory.{Memory}
 use Rattle.hp_units.specs.declared.events.Event.{Event}
 use Rattle.hp_units.specs.declared.replies.Record.{Record}
-use Rattle.hp_units.specs.declared.replies.Reply.{Reply}
 use Rattle.hp_units.specs.declared.rows.Row.{Row}
 use Rattle.hp_renumbering.specs.Renumbered.{IsOneToOne, renumbered, renumbered_event, renumbered_row}
 use Rattle.hp_renumbering.proofs.Alike.{unseen_same}
-use Rattle.hp_schedules.specs.Alike.{AreMergeable, leaves_steps}
+use Rattle.hp_schedules.specs.Alike.{AreMergeable}
 use Rattle.hp_schedules.specs.Continuing.{AreSameBy, ContinueAlike, ContinuesAs, anonymous, anonymous_record, renumbered_events}
 use Rattle.hp_schedules.specs.Outcomes.{ended_row, ended_rows_below}
 use Rattle.hp_schedules.specs.Schedules.{Setting, next_call, play_one, plays, record_of_call}
 use Rattle.hp_schedules.proofs.JoinedBy.{IsSameRecord}
+use Rattle.hp_renumbering.proofs.Options.{cases_option}
 use Rattle.hp_schedules.proofs.SameCalls.{call_leaves, call_same, event_kept, record_same, same_more}
-use Rattle.hp_schedules.proofs.Plays.{from_news, plays_on, plays_one, stays_none}
+use Rattle.hp_schedules.proofs.Plays.{from_news, plays_on, recorded, stays_none}
 
 -- ---- the same but for the operations
 
@@ -31,14 +30,10 @@ anonymous_same p q e d same =
 record_anonymous : (p q : ℕ → ℕ) (r s : Record) → IsSameRecord p q r s
     → anonymous_record r ≡ anonymous_record s
 record_anonymous p q r s one =
-    ap (λ (n : ℕ). made n r.cpu (anonymous r.event) r.reply) one.serial
-    ∙ (ap (λ (c : ℕ). made s.serial c (anonymous r.event) r.reply) one.cpu
-    ∙ (ap (λ (e : Event). made s.serial s.cpu e r.reply)
-    (anonymous_same p q r.event s.event one.receipt.event)
-    ∙ ap (made s.serial s.cpu (anonymous s.event)) one.receipt.reply))
-  where
-    made : ℕ → ℕ → Event → Reply → Record
-    made serial cpu event reply = record { serial = serial; cpu = cpu; event = event; reply = reply }
+    let same : recorded r.serial r.cpu (anonymous r.event) r.reply
+    ≡ recorded s.serial s.cpu (anonymous s.event) s.reply =
+    cc (anonymous_same p q r.event s.event one.receipt.event, one.serial, one.cpu, one.receipt.reply) in
+    same
 
 -- lists of records that are the same, one by one
 abbrev pub AreSameRecords : (p q : ℕ → ℕ) → List Record → List Record → Type 0
@@ -50,20 +45,18 @@ AreSameRecords p q (r ∷ more) (s ∷ others) = IsSameRecord p q r s × AreSame
 records_anonymous : (p q : ℕ → ℕ) (more others : List Record) → AreSameRecords p q more others
     → map anonymous_record more ≡ map anonymous_record others
 records_anonymous p q [] [] same = refl
-records_anonymous p q [] (s ∷ others) same = absurd same
-records_anonymous p q (r ∷ more) [] same = absurd same
 records_anonymous p q (r ∷ more) (s ∷ others) same =
     ap (λ (first : Record). first ∷ map anonymous_record more) (record_anonymous p q r s same.0)
     ∙ ap (λ (rest : List Record). anonymous_record s ∷ rest) (records_anonymous p q more others same.1)
+records_anonymous p q more others same = absurd same
 
 events_same : (p q : ℕ → ℕ) (more others : List Record) → AreSameRecords p q more others
     → renumbered_events p more ≡ renumbered_events q others
 events_same p q [] [] same = refl
-events_same p q [] (s ∷ others) same = absurd same
-events_same p q (r ∷ more) [] same = absurd same
 events_same p q (r ∷ more) (s ∷ others) same =
     ap (λ (first : Event). first ∷ renumbered_events p more) same.0.receipt.event
     ∙ ap (λ (rest : List Event). renumbered_event q s.event ∷ rest) (events_same p q more others same.1)
+events_same p q more others same = absurd same
 
 -- ---- the same continuations
 
@@ -87,53 +80,46 @@ goes_on_as p q p_one q_one g [] h k end all alike is = record {
   played = ap Some (sym (append-nil k));
   same = tt;
   alike =
-      subst (λ (news : List Record). AreSameBy p q g news (k ++ [])) (same_Some h end is)
-      (subst (λ (news : List Record). AreSameBy p q g h news) (sym (append-nil k)) alike);
+      rw (← same_Some h end is, append-nil) alike;
 }
 goes_on_as p q p_one q_one g (cpu ∷ rest) h k end all alike is =
-    by_calls (next_call g cpu h) (next_call g cpu k) refl refl (call_same p q g h k cpu alike)
-    (λ e d more on. goes_on_as p q p_one q_one g rest (h ++ record_of_call g h cpu e ∷ [])
-    (k ++ record_of_call g k cpu d ∷ []) end all more on)
+    elim (cases_option (next_call g cpu h)) [
+      | inl none ↦ absurd (none-some end (sym (stays_none g rest) ∙ (rw none at is)))
+      | inr e ↦ elim (cases_option (next_call g cpu k)) [
+        | inl none ↦ absurd (let one = rw (e.1, none) at (call_same p q g h k cpu alike) in cc)
+        | inr d ↦ on e.0 d.0 e.1 d.1
+            (goes_on_as p q p_one q_one g rest (h ++ record_of_call g h cpu e.0 ∷ [])
+            (k ++ record_of_call g k cpu d.0 ∷ []) end all (more e.0 d.0 e.1 d.1) (rw e.1 at is))
+      ]
+    ]
   where
-    by_calls : (o u : Option Event) → next_call g cpu h ≡ o → next_call g cpu k ≡ u
-        → option_map (renumbered_event p) o ≡ option_map (renumbered_event q) u
-        → ((e d : Event)
+    one : (e d : Event) → next_call g cpu h ≡ Some e → next_call g cpu k ≡ Some d
+        → IsSameRecord p q (record_of_call g h cpu e) (record_of_call g k cpu d)
+    one e d asked other =
+        record_same p q p_one q_one g h k cpu e d alike
+        (same_Some (renumbered_event p e) (renumbered_event q d)
+        (rw (asked, other) at (call_same p q g h k cpu alike)))
+        (call_leaves g h cpu e all asked) (call_leaves g k cpu d all other)
+
+    more : (e d : Event) → next_call g cpu h ≡ Some e → next_call g cpu k ≡ Some d
         → AreSameBy p q g (h ++ record_of_call g h cpu e ∷ []) (k ++ record_of_call g k cpu d ∷ [])
-        → from_news g (h ++ record_of_call g h cpu e ∷ []) rest ≡ Some end
-        → GoesOnAs p q g rest (h ++ record_of_call g h cpu e ∷ []) (k ++ record_of_call g k cpu d ∷ []) end)
+    more e d asked other =
+        same_more p q p_one q_one g h k (record_of_call g h cpu e) (record_of_call g k cpu d)
+        (rw (event_kept g h cpu e) (call_leaves g h cpu e all asked))
+        (rw (event_kept g k cpu d) (call_leaves g k cpu d all other)) (one e d asked other) alike
+
+    on : (e d : Event) → next_call g cpu h ≡ Some e → next_call g cpu k ≡ Some d
+        → GoesOnAs p q g rest (h ++ record_of_call g h cpu e ∷ []) (k ++ record_of_call g k cpu d ∷ []) end
         → GoesOnAs p q g (cpu ∷ rest) h k end
-    by_calls None u asked other are later =
-        absurd (none-some end
-        (sym (ap (λ (o : Option (List Record)). fold (play_one g) o rest) (plays_one g h cpu None asked)
-        ∙ stays_none g rest) ∙ is))
-    by_calls (Some e) None asked other are later = absurd cc
-    by_calls (Some e) (Some d) asked other are later =
-        let event : renumbered_event p e ≡ renumbered_event q d =
-        same_Some (renumbered_event p e) (renumbered_event q d) are in
-        let leaves = call_leaves g h cpu e all asked in
-        let other_leaves = call_leaves g k cpu d all other in
-        let one = record_same p q p_one q_one g h k cpu e d alike event leaves other_leaves in
-        let more =
-        same_more p q p_one q_one g h k (record_of_call g h cpu e) (record_of_call g k cpu d) (subst
-        (λ (c : Event). leaves_steps (effect_of c) ≡ true) (sym (event_kept g h cpu e)) leaves) (subst
-        (λ (c : Event). leaves_steps (effect_of c) ≡ true) (sym (event_kept g k cpu d)) other_leaves) one
-        alike in
-        let on : from_news g (h ++ record_of_call g h cpu e ∷ []) rest ≡ Some end =
-        sym (ap (λ (o : Option (List Record)). fold (play_one g) o rest) (plays_one g h cpu (Some e) asked))
-        ∙ is in
-        let end_of = later e d more on in
-        record {
-          more = record_of_call g h cpu e ∷ end_of.more;
-          others = record_of_call g k cpu d ∷ end_of.others;
-          end_is = end_of.end_is ∙ append_assoc h (record_of_call g h cpu e ∷ []) end_of.more;
-          played =
-              ap (λ (o : Option (List Record)). fold (play_one g) o rest) (plays_one g k cpu (Some d) other)
-              ∙ (end_of.played ∙ ap Some (append_assoc k (record_of_call g k cpu d ∷ []) end_of.others));
-          same = (one, end_of.same);
-          alike =
-              subst (λ (news : List Record). AreSameBy p q g end news)
-              (append_assoc k (record_of_call g k cpu d ∷ []) end_of.others) end_of.alike;
-        }
+    on e d asked other later = record {
+      more = record_of_call g h cpu e ∷ later.more;
+      others = record_of_call g k cpu d ∷ later.others;
+      end_is = later.end_is ∙ append_assoc h (record_of_call g h cpu e ∷ []) later.more;
+      played =
+          rw other (later.played ∙ ap Some (append_assoc k (record_of_call g k cpu d ∷ []) later.others));
+      same = (one e d asked other, later.same);
+      alike = rw (← append_assoc k (record_of_call g k cpu d ∷ []) later.others) later.alike;
+    }
 
 -- a schedule goes on from where its beginning leads to
 pub plays_from : (g : Setting) (p rest : List ℕ) (h end : List Record) → plays g p ≡ Some h
@@ -148,27 +134,15 @@ row_same f (Some row) = refl
 
 rows_same : (f : ℕ → ℕ) (s : Memory) (blocks : ℕ)
     → ended_rows_below blocks (renumbered f s) ≡ ended_rows_below blocks s
-rows_same f s blocks = by_block (range_with_len 0 blocks)
-  where
-    by_block : (bs : List ℕ)
-        → map (λ block. ended_row (slice_get (map (renumbered_row f) s.blocks.rows) block)) bs
-        ≡ map (λ block. ended_row (slice_get s.blocks.rows block)) bs
-    by_block [] = refl
-    by_block (b ∷ bs) =
-        ap (λ (row : Row).
-        row ∷ map (λ block. ended_row (slice_get (map (renumbered_row f) s.blocks.rows) block)) bs)
-        (ap ended_row (slice_get-map (renumbered_row f) s.blocks.rows b)
-        ∙ row_same f (slice_get s.blocks.rows b))
-        ∙ ap (λ (rows : List Row). ended_row (slice_get s.blocks.rows b) ∷ rows) (by_block bs)
+rows_same f s blocks = simp (slice_get-map, row_same)
 
 calls_anonymous : (p q : ℕ → ℕ) (o u : Option Event)
     → option_map (renumbered_event p) o ≡ option_map (renumbered_event q) u
     → option_map anonymous o ≡ option_map anonymous u
 calls_anonymous p q None None are = refl
-calls_anonymous p q None (Some d) are = absurd cc
-calls_anonymous p q (Some e) None are = absurd cc
 calls_anonymous p q (Some e) (Some d) are =
     ap Some (anonymous_same p q e d (same_Some (renumbered_event p e) (renumbered_event q d) are))
+calls_anonymous p q o u are = absurd cc
 
 pub continues_as : (g : Setting) (p q rest : List ℕ) (h k end : List Record) → AreMergeable g.scripts
     → plays g p ≡ Some h → plays g q ≡ Some k → (alike : ContinueAlike g h k)

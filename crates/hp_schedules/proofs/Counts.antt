@@ -3,7 +3,7 @@ use Rattle.std.proofs.Common.{◌≡◌, ℕ, zero, suc, ◌+◌, ◌<◌, List,
 use Rattle.std.specs.Prelude.{◌⊎◌, sum_by}
 use Rattle.std.proofs.lemmas.List.{length_push}
 use Rattle.std.proofs.lemmas.List.Sums.{sum_by_push, sum_by-set}
-use Rattle.std.proofs.lemmas.Option.{slice_get_within, get_or_from_slice_get, same_Some}
+use Rattle.std.proofs.lemmas.Option.{slice_get_within, get_or_from_slice_get}
 use Rattle.std.proofs.lemmas.Bool.{cases_eq}
 use Rattle.hp_laws.proofs.Lists.{get_push_cases, get_end}
 use Rattle.hp_schedules.specs.declared.tally.Ending.{Ending}
@@ -19,11 +19,8 @@ use Rattle.hp_schedules.proofs.Regions.{not_before_itself}
 -- each place of a list with one item set is that place, or as before
 pub get_set_cases : {A : Type 0} (xs : List A) (k : ℕ) (y : A) (j : ℕ) (x : A)
     → slice_get (set xs k y) j ≡ Some x → ((j ≡ k) × (y ≡ x)) ⊎ ((j ≡ k → ⊥) × (slice_get xs j ≡ Some x))
-get_set_cases [] k y j x h = absurd (none k j h)
-  where
-    none : (k j : ℕ) → slice_get (set [] k y) j ≡ Some x → ⊥
-    none zero j h = cc
-    none (suc k) j h = cc
+get_set_cases [] zero y j x h = absurd cc
+get_set_cases [] (suc k) y j x h = absurd cc
 get_set_cases (z ∷ xs) zero y zero x h = inl (refl, cc)
 get_set_cases (z ∷ xs) zero y (suc j) x h = inr (λ e. absurd cc, h)
 get_set_cases (z ∷ xs) (suc k) y zero x h = inr (λ e. absurd cc, h)
@@ -75,14 +72,13 @@ one_more P n p new counted = (
         → slice_get (all ++ p ∷ []) j ≡ Some s → i ≡ j
     once i j s h k =
         elim (get_push_cases all p s i h) [
-          | inl e ↦
-              elim (get_push_cases all p s j k) [
-                | inl f ↦ counted.1.once i j s e f
-                | inr f ↦ absurd (new (subst P (sym f.1) (counted.1.each i s e)))
-              ]
+          | inl e ↦ elim (get_push_cases all p s j k) [
+            | inl f ↦ counted.1.once i j s e f
+            | inr f ↦ absurd (new (rw f.1 (counted.1.each i s e)))
+          ]
           | inr e ↦
               elim (get_push_cases all p s j k)
-              [ inl f ↦ absurd (new (subst P (sym e.1) (counted.1.each j s f))) | inr f ↦ e.0 ∙ sym f.0 ]
+              [ inl f ↦ absurd (new (rw e.1 (counted.1.each j s f))) | inr f ↦ e.0 ∙ sym f.0 ]
         ]
 
 -- more than so many: those of a kind and one that is not
@@ -126,8 +122,8 @@ same_counted E F ends to from ok = record {
   every = λ s x f. ok.every s x (from s x f);
   apart = ok.apart;
   total =
-      same_count (λ s. (x : OutcomeValue) × E s x) (λ s. (x : OutcomeValue) × F s x) (sum_by
-      (λ (e : Ending). e.count) ends) (λ s h. (h.0, to s h.0 h.1)) (λ s h. (h.0, from s h.0 h.1)) ok.total;
+      same_count (λ s. (x : OutcomeValue) × E s x) (λ s. (x : OutcomeValue) × F s x) _
+      (λ s h. (h.0, to s h.0 h.1)) (λ s h. (h.0, from s h.0 h.1)) ok.total;
 }
 
 -- the schedules, and one more with its replies
@@ -140,14 +136,9 @@ total_more : (E : List ℕ → OutcomeValue → Type 0) (p : List ℕ) (x : Outc
     → HasCount (λ s. (y : OutcomeValue) × With E p x s y) (n + 1)
 total_more E p x n new counted =
     same_count (λ s. ((y : OutcomeValue) × E s y) ⊎ (s ≡ p)) (λ s. (y : OutcomeValue) × With E p x s y)
-    (n + 1) to from
+    (n + 1) (λ s h. elim h [ inl e ↦ (e.0, inl e.1) | inr same ↦ (x, inr (same, refl)) ])
+    (λ s h. elim h.1 [ inl e ↦ inl (h.0, e) | inr same ↦ inr same.0 ])
     (one_more (λ s. (y : OutcomeValue) × E s y) n p (λ h. new h.0 h.1) counted)
-  where
-    to : (s : List ℕ) → ((y : OutcomeValue) × E s y) ⊎ (s ≡ p) → (y : OutcomeValue) × With E p x s y
-    to s h = elim h [ inl e ↦ (e.0, inl e.1) | inr same ↦ (x, inr (same, refl)) ]
-
-    from : (s : List ℕ) → (y : OutcomeValue) × With E p x s y → ((y : OutcomeValue) × E s y) ⊎ (s ≡ p)
-    from s h = elim h.1 [ inl e ↦ inl (h.0, e) | inr same ↦ inr same.0 ]
 
 -- an end's count with one more schedule of that end
 count_more : (E : List ℕ → OutcomeValue → Type 0) (p : List ℕ) (x y : OutcomeValue) (n : ℕ) → (E p y → ⊥)
@@ -186,8 +177,7 @@ end_stays old at entry more here same_outcome k e y h is =
         at,
         more,
         get_set_here old at more (slice_get_within old at entry here),
-        same_outcome ∙ (ap (λ (f : Ending). f.outcome)
-            (same_Some entry e (sym here ∙ (ap (slice_get old) (sym same) ∙ h))) ∙ is),
+        cc,
       )
       | inr other ↦ (k, e, get_set_other old at more k e other h, is)
     ]
@@ -197,7 +187,7 @@ noted_again : (E : List ℕ → OutcomeValue → Type 0) (p : List ℕ) (x : Out
     → AreCounted E old → ((s : List ℕ) (y : OutcomeValue) → E s y → IsBefore s p) → AddsOne old x new
     → AreCounted (With E p x) new
 noted_again E p x old new ok before adds =
-    subst (AreCounted (With E p x)) (sym adds.new_is)
+    rw adds.new_is
     (record { counts = counts; firsts = firsts; every = every; apart = apart; total = total })
   where
     unseen : (y : OutcomeValue) → E p y → ⊥
@@ -210,12 +200,10 @@ noted_again E p x old new ok before adds =
         → HasCount (λ s. With E p x s e.outcome) e.count
     counts k e h =
         elim (get_set_cases old adds.at adds.more k e h) [
-          | inl here ↦ subst (λ (f : Ending). HasCount (λ s. With E p x s f.outcome) f.count) here.1
-              (subst (λ (y : OutcomeValue). HasCount (λ s. With E p x s y) adds.more.count)
-              (sym adds.outcome_is)
-              (subst (HasCount (λ s. With E p x s adds.entry.outcome)) (sym adds.count)
+          | inl here ↦
+              rw (← here.1, adds.outcome_is, adds.count)
               (count_more E p x adds.entry.outcome adds.entry.count (unseen adds.entry.outcome) adds.same
-              (ok.counts adds.at adds.entry adds.here))))
+              (ok.counts adds.at adds.entry adds.here))
           | inr there ↦
               count_same E p x e.outcome e.count
               (λ same. there.0 (ok.apart k adds.at e adds.entry there.1 adds.here (same ∙ sym adds.same)))
@@ -226,12 +214,10 @@ noted_again E p x old new ok before adds =
         → IsFirst (λ s. With E p x s e.outcome) e.first.items
     firsts k e h =
         elim (get_set_cases old adds.at adds.more k e h) [
-          | inl here ↦ subst (λ (f : Ending). IsFirst (λ s. With E p x s f.outcome) f.first.items) here.1
-              (subst (λ (y : OutcomeValue). IsFirst (λ s. With E p x s y) adds.more.first.items)
-              (sym adds.outcome_is)
-              (subst (IsFirst (λ s. With E p x s adds.entry.outcome)) (sym adds.first)
+          | inl here ↦
+              rw (← here.1, adds.outcome_is, adds.first)
               (first_same E p adds.entry.first.items x adds.entry.outcome before
-              (ok.firsts adds.at adds.entry adds.here))))
+              (ok.firsts adds.at adds.entry adds.here))
           | inr there ↦ first_same E p e.first.items x e.outcome before (ok.firsts k e there.1)
         ]
 
@@ -239,11 +225,7 @@ noted_again E p x old new ok before adds =
         → (f : Ending) × (slice_get old k ≡ Some f) × (f.outcome ≡ e.outcome)
     later_at k e h =
         elim (get_set_cases old adds.at adds.more k e h) [
-          | inl here ↦ (
-            adds.entry,
-            subst (λ (n : ℕ). slice_get old n ≡ Some adds.entry) (sym here.0) adds.here,
-            sym adds.outcome_is ∙ ap (λ (f : Ending). f.outcome) here.1,
-          )
+          | inl here ↦ (adds.entry, rw here.0 adds.here, rw (← here.1) (sym adds.outcome_is))
           | inr there ↦ (e, there.1, refl)
         ]
 
@@ -265,27 +247,23 @@ noted_again E p x old new ok before adds =
 
     sum : sum_by (λ (e : Ending). e.count) later ≡ sum_by (λ (e : Ending). e.count) old + 1
     sum =
-        let within : adds.at < length old = slice_get_within old adds.at adds.entry adds.here in
-        let read =
-        ap (λ (e : Ending). e.count) (get_or_from_slice_get old adds.at adds.entry adds.entry adds.here) in
         omega (
           arith,
-          sum_by-set (λ (e : Ending). e.count) old adds.at adds.more adds.entry within,
-          read,
+          sum_by-set (λ (e : Ending). e.count) old adds.at adds.more adds.entry
+              (slice_get_within old adds.at adds.entry adds.here),
+          ap (λ (e : Ending). e.count) (get_or_from_slice_get old adds.at adds.entry adds.entry adds.here),
           adds.count,
         )
 
     total : HasCount (λ s. (y : OutcomeValue) × With E p x s y) (sum_by (λ (e : Ending). e.count) later)
-    total =
-        subst (HasCount (λ s. (y : OutcomeValue) × With E p x s y)) (sym sum)
-        (total_more E p x (sum_by (λ (e : Ending). e.count) old) unseen ok.total)
+    total = rw sum (total_more E p x (sum_by (λ (e : Ending). e.count) old) unseen ok.total)
 
 -- one schedule more, whose end is new
 noted_first : (E : List ℕ → OutcomeValue → Type 0) (p : List ℕ) (x : OutcomeValue) (old new : List Ending)
     → AreCounted E old → ((s : List ℕ) (y : OutcomeValue) → E s y → IsBefore s p) → AddsEnd old x p new
     → AreCounted (With E p x) new
 noted_first E p x old new ok before adds =
-    subst (AreCounted (With E p x)) (sym adds.new_is)
+    rw adds.new_is
     (record { counts = counts; firsts = firsts; every = every; apart = apart; total = total })
   where
     unseen : (y : OutcomeValue) → E p y → ⊥
@@ -303,11 +281,9 @@ noted_first E p x old new ok before adds =
         elim (get_push_cases old adds.entry e k h) [
           | inl there ↦
               count_same E p x e.outcome e.count (λ same. adds.none k e there same) (ok.counts k e there)
-          | inr here ↦ subst (λ (f : Ending). HasCount (λ s. With E p x s f.outcome) f.count) here.1
-              (subst (λ (y : OutcomeValue). HasCount (λ s. With E p x s y) adds.entry.count)
-              (sym adds.outcome_is)
-              (subst (HasCount (λ s. With E p x s x)) (sym adds.count)
-              (count_more E p x x 0 (unseen x) refl (none_listed (λ s. E s x) fresh))))
+          | inr here ↦
+              rw (← here.1, adds.outcome_is, adds.count)
+              (count_more E p x x 0 (unseen x) refl (none_listed (λ s. E s x) fresh))
         ]
 
     only : IsFirst (λ s. With E p x s x) p
@@ -321,10 +297,7 @@ noted_first E p x old new ok before adds =
     firsts k e h =
         elim (get_push_cases old adds.entry e k h) [
           | inl there ↦ first_same E p e.first.items x e.outcome before (ok.firsts k e there)
-          | inr here ↦ subst (λ (f : Ending). IsFirst (λ s. With E p x s f.outcome) f.first.items) here.1
-              (subst (λ (y : OutcomeValue). IsFirst (λ s. With E p x s y) adds.entry.first.items)
-              (sym adds.outcome_is)
-              (subst (IsFirst (λ s. With E p x s x)) (sym adds.first) only))
+          | inr here ↦ rw (← here.1, adds.outcome_is, adds.first) only
         ]
 
     every : (s : List ℕ) (y : OutcomeValue) → With E p x s y
@@ -343,26 +316,19 @@ noted_first E p x old new ok before adds =
         elim (get_push_cases old adds.entry e i h) [
           | inl a ↦ elim (get_push_cases old adds.entry f j k) [
             | inl b ↦ ok.apart i j e f a b same
-            | inr b ↦
-                absurd (adds.none i e a (same ∙ (sym (ap (λ (g : Ending). g.outcome) b.1) ∙ adds.outcome_is)))
+            | inr b ↦ absurd (adds.none i e a cc)
           ]
           | inr a ↦ elim (get_push_cases old adds.entry f j k) [
-            | inl b ↦
-                absurd
-                (adds.none j f b (sym same ∙ (sym (ap (λ (g : Ending). g.outcome) a.1) ∙ adds.outcome_is)))
+            | inl b ↦ absurd (adds.none j f b cc)
             | inr b ↦ a.0 ∙ sym b.0
           ]
         ]
 
     sum : sum_by (λ (e : Ending). e.count) later ≡ sum_by (λ (e : Ending). e.count) old + 1
-    sum =
-        sum_by_push (λ (e : Ending). e.count) old adds.entry
-        ∙ ap (λ (n : ℕ). sum_by (λ (e : Ending). e.count) old + n) adds.count
+    sum = rw (sum_by_push, adds.count)
 
     total : HasCount (λ s. (y : OutcomeValue) × With E p x s y) (sum_by (λ (e : Ending). e.count) later)
-    total =
-        subst (HasCount (λ s. (y : OutcomeValue) × With E p x s y)) (sym sum)
-        (total_more E p x (sum_by (λ (e : Ending). e.count) old) unseen ok.total)
+    total = rw sum (total_more E p x (sum_by (λ (e : Ending). e.count) old) unseen ok.total)
 
 -- one schedule more
 pub noted : (E : List ℕ → OutcomeValue → Type 0) (p : List ℕ) (x : OutcomeValue) (old new : List Ending)

@@ -1,7 +1,7 @@
 -- How many schedules there are in which each processor stands as often as wanted.
 use Rattle.std.proofs.Common.{◌≡◌, ℕ, zero, suc, ◌+◌, ◌*◌, ◌<◌, ◌≤◌, Bool, true, false, cond, eqb, List, [], ◌∷◌, length, take, set, get_or, Some, slice_get, refl, ap, sym, subst, ◌∙◌, arith, inl, inr}
 use Rattle.std.specs.Prelude.{◌⊎◌}
-use Rattle.std.proofs.lemmas.Bool.{cases_lt, eq-eqb, eqb-true}
+use Rattle.std.proofs.lemmas.Bool.{cases_Bool, cases_eq, cases_lt, eq-eqb, eqb-false, eqb-true}
 use Rattle.std.proofs.lemmas.List.{get_or-set_same, get_or-set_other, take_all}
 use Rattle.std.proofs.Math.Nat.{add-mul, mul_assoc, mul_left_comm}
 use Rattle.std.proofs.lemmas.Option.{same_Some}
@@ -36,61 +36,29 @@ less_factorials (n ∷ ns) (suc c) k within is =
     ap (λ (m : ℕ). factorial n * m) (less_factorials ns c k (omega arith) is)
     ∙ mul_left_comm (factorial n) (suc k) (factorials (set ns c k))
 
+-- another processor's number stays
+other_stays : (ns : List ℕ) (c cpu k : ℕ) → eqb c cpu ≡ false → get_or (set ns c k) cpu 0 ≡ get_or ns cpu 0
+other_stays ns c cpu k e = get_or-set_other ns c cpu k 0 (λ same. eqb-false c cpu e (sym same))
+
 -- the schedules that begin with a processor are those with one turn of its less
 front_to : (ns : List ℕ) (c k : ℕ) (s : List ℕ) → c < length ns → get_or ns c 0 ≡ suc k
     → Fronted c (HasTurns (set ns c k)) s → HasTurns ns s
 front_to ns c k s within is h cpu =
-    subst (λ (t : List ℕ). turns_of cpu t ≡ get_or ns cpu 0) (sym h.1) (by_own (eqb c cpu) refl)
-  where
-    by_own : (own : Bool) → eqb c cpu ≡ own → turns_of cpu (c ∷ h.0) ≡ get_or ns cpu 0
-    by_own true e =
-        let same : c ≡ cpu = eqb-true c cpu e in
-        omega (
-          arith,
-          turns_cons cpu c h.0 true e,
-          h.2 cpu,
-          ap (λ (d : ℕ). get_or (set ns c k) d 0)
-              (sym same),
-          get_or-set_same ns c k 0 within,
-          is,
-          ap (λ (d : ℕ). get_or ns d 0) same,
-        )
-    by_own false e =
-        omega (
-          arith,
-          turns_cons cpu c h.0 false e,
-          h.2 cpu,
-          get_or-set_other ns c cpu k 0 (λ same. absurd
-              (let t : eqb c cpu ≡ true = eq-eqb c cpu (sym same) in let f : true ≡ false = sym t ∙ e in cc)),
-        )
+    let turns : turns_of cpu (c ∷ h.0) ≡ get_or ns cpu 0 = elim (cases_Bool (eqb c cpu)) [
+      | inl e ↦ subst (λ (d : ℕ). turns_of d (c ∷ h.0) ≡ get_or ns d 0) (eqb-true c cpu e)
+          (omega (arith, turns_cons c c h.0 true (eq-eqb c c refl), h.2 c, get_or-set_same ns c k 0 within))
+      | inr e ↦ omega (arith, turns_cons cpu c h.0 false e, h.2 cpu, other_stays ns c cpu k e)
+    ] in
+    rw h.1 turns
 
 front_from : (ns : List ℕ) (c k : ℕ) (s t : List ℕ) → c < length ns → get_or ns c 0 ≡ suc k → s ≡ c ∷ t
     → HasTurns ns s → HasTurns (set ns c k) t
-front_from ns c k s t within is front h cpu = by_own (eqb c cpu) refl
-  where
-    turns : turns_of cpu (c ∷ t) ≡ get_or ns cpu 0
-    turns = subst (λ (u : List ℕ). turns_of cpu u ≡ get_or ns cpu 0) front (h cpu)
-
-    by_own : (own : Bool) → eqb c cpu ≡ own → turns_of cpu t ≡ get_or (set ns c k) cpu 0
-    by_own true e =
-        let same : c ≡ cpu = eqb-true c cpu e in
-        omega (
-          arith,
-          turns_cons cpu c t true e,
-          turns,
-          ap (λ (d : ℕ). get_or (set ns c k) d 0) (sym same),
-          get_or-set_same ns c k 0 within,
-          is,
-          ap (λ (d : ℕ). get_or ns d 0) same,
-        )
-    by_own false e =
-        omega (
-          arith,
-          turns_cons cpu c t false e,
-          turns,
-          get_or-set_other ns c cpu k 0
-              (λ same. absurd (let f : true ≡ false = sym (eq-eqb c cpu (sym same)) ∙ e in cc)),
-        )
+front_from ns c k s t within is front h cpu =
+    elim (cases_Bool (eqb c cpu)) [
+      | inl e ↦ (let turns = rw front at (h c) in rw (← eqb-true c cpu e)
+          (omega (arith, turns_cons c c t true (eq-eqb c c refl), turns, get_or-set_same ns c k 0 within)))
+      | inr e ↦ omega (arith, turns_cons cpu c t false e, rw front at (h cpu), other_stays ns c cpu k e)
+    ]
 
 -- ---- where no turn is left
 
@@ -124,9 +92,7 @@ only_empty : (ns : List ℕ) → sum ns ≡ 0 → HasCount (HasTurns ns) 1
 only_empty ns none = ([] ∷ [], record { each = each; every = every; once = once }, refl)
   where
     each : (i : ℕ) (s : List ℕ) → slice_get ([] ∷ []) i ≡ Some s → HasTurns ns s
-    each zero s h =
-        λ cpu. subst (λ (t : List ℕ). turns_of cpu t ≡ get_or ns cpu 0) (same_Some [] s h)
-        (sym (none_at ns cpu none))
+    each zero s h = λ cpu. rw (← same_Some [] s h) (sym (none_at ns cpu none))
     each (suc i) s h = absurd cc
 
     every : (s : List ℕ) → HasTurns ns s → (i : ℕ) × (slice_get ([] ∷ []) i ≡ Some s)
@@ -135,8 +101,7 @@ only_empty ns none = ([] ∷ [], record { each = each; every = every; once = onc
 
     once : (i j : ℕ) (s : List ℕ) → slice_get ([] ∷ []) i ≡ Some s → slice_get ([] ∷ []) j ≡ Some s → i ≡ j
     once zero zero s h k = refl
-    once zero (suc j) s h k = absurd cc
-    once (suc i) j s h k = absurd cc
+    once i j s h k = absurd cc
 
 -- ---- by the processor that comes first
 
@@ -172,15 +137,12 @@ below_more ns c n all less within so_far = by_number (get_or ns c 0) refl
 
         from : (s : List ℕ) → FirstBelow ns (c + 1) s → FirstBelow ns c s
         from s h =
-            let some : 0 < get_or ns h.0 0 = turned ns h.0 h.1 (subst (HasTurns ns) h.2 h.4) in (
+            let some : 0 < get_or ns h.0 0 = turned ns h.0 h.1 (rw h.2 at h.4) in (
               h.0,
               h.1,
               h.2,
-              elim (cases_lt h.0 c) [
-                | inl l ↦ l
-                | inr past ↦ absurd (let same : h.0 ≡ c =
-                    omega (arith, past, h.3) in omega (arith, some, is, ap (λ (d : ℕ). get_or ns d 0) same))
-              ],
+              elim (cases_eq h.0 c)
+                  [ inl same ↦ absurd (omega (arith, rw same at some)) | inr off ↦ omega (arith, h.3) ],
               h.4,
             )
     by_number (suc k) is =
@@ -193,14 +155,8 @@ below_more ns c n all less within so_far = by_number (get_or ns c 0) refl
           product one.0 one.2,
         )
       where
-        heads : (a b : ℕ) (t u : List ℕ) → a ∷ t ≡ b ∷ u → a ≡ b
-        heads a b t u h = cc
-
-        tails : (a b : ℕ) (t u : List ℕ) → a ∷ t ≡ b ∷ u → t ≡ u
-        tails a b t u h = cc
-
         apart : (s : List ℕ) → FirstBelow ns c s → Fronted c (HasTurns (set ns c k)) s → ⊥
-        apart s h f = let same : h.0 ≡ c = heads h.0 c h.1 f.0 (sym h.2 ∙ f.1) in omega (arith, same, h.3)
+        apart s h f = let same : h.0 ≡ c = cc (h.2, f.1) in omega (arith, same, h.3)
 
         to : (s : List ℕ) → FirstBelow ns c s ⊎ Fronted c (HasTurns (set ns c k)) s → FirstBelow ns (c + 1) s
         to s h =
@@ -215,20 +171,16 @@ below_more ns c n all less within so_far = by_number (get_or ns c 0) refl
             elim (cases_lt h.0 c) [
               | inl l ↦ inl (h.0, h.1, h.2, l, h.4)
               | inr past ↦ (let same : h.0 ≡ c = omega (arith, past, h.3) in
-                  let front : s ≡ c ∷ h.1 = h.2 ∙ ap (λ (d : ℕ). d ∷ h.1) same in
+                  let front = rw same at h.2 in
                   inr (h.1, front, front_from ns c k s h.1 within is front h.4))
             ]
 
         product : (m : ℕ) → m * factorials (set ns c k) ≡ factorial (sum (set ns c k))
             → (so_far.0 + m) * factorials ns ≡ sum (take (c + 1) ns) * factorial n
         product m times =
-            add-mul so_far.0 m (factorials ns)
-            ∙ (ap (λ (a : ℕ). a + m * factorials ns) so_far.2
-            ∙ (ap (λ (b : ℕ). sum (take c ns) * factorial n + b) (ap (λ (f : ℕ). m * f) (less_factorials ns c
-            k within is) ∙ (mul_left_comm m (suc k) (factorials (set ns c k)) ∙ ap (λ (f : ℕ). suc k * f)
-            (times ∙ ap factorial (less_sum ns c k n within is all))))
-            ∙ (sym (add-mul (sum (take c ns)) (suc k) (factorial n))
-            ∙ ap (λ (a : ℕ). a * factorial n) (ap (λ (b : ℕ). sum (take c ns) + b) (sym is) ∙ sym longer))))
+            rw (add-mul so_far.0 m (factorials ns), so_far.2, less_factorials ns c k within is)
+            (rw (mul_left_comm m (suc k) (factorials (set ns c k)), times, less_sum ns c k n within is all)
+            (rw (longer, is) (sym (add-mul (sum (take c ns)) (suc k) (factorial n)))))
 
 below_all : (ns : List ℕ) (n : ℕ) → sum ns ≡ suc n → ((ms : List ℕ) → sum ms ≡ n → AreInterleaved ms)
     → (c : ℕ) → c ≤ length ns → AreBelow ns c n
@@ -236,8 +188,7 @@ below_all ns n all less zero within =
     (0, none_listed (FirstBelow ns 0) (λ s h. omega (arith, h.3)), omega arith)
 below_all ns n all less (suc c) within =
     let one : c + 1 ≡ suc c = omega arith in
-    subst (λ (d : ℕ). AreBelow ns d n) one
-    (below_more ns c n all less (omega arith) (below_all ns n all less c (omega arith)))
+    rw (← one) (below_more ns c n all less (omega arith) (below_all ns n all less c (omega arith)))
 
 -- ---- all
 

@@ -1,12 +1,12 @@
 -- Schedules of scripts whose lines are one call each.
 use Rattle.std.proofs.Common.{◌≡◌, ℕ, zero, suc, ◌+◌, ◌<◌, ◌≤◌, Bool, true, false, cond, List, [], ◌∷◌, ◌++◌, length, Option, Some, None, IfSome, eqb, get_or, slice_get, refl, ap, sym, subst, ◌∙◌, arith, inl, inr}
-use Rattle.std.specs.Prelude.{◌↔◌, IfNone, fold, option_and_then}
+use Rattle.std.specs.Prelude.{◌↔◌, IfNone}
 use Rattle.std.specs.List.{list_all}
-use Rattle.std.specs.Option.{SomeIff, option_map_or}
+use Rattle.std.specs.Option.{SomeIff}
 use Rattle.std.proofs.lemmas.Bool.{and_parts, cases_lt, eq-eqb, eqb-true}
 use Rattle.std.proofs.lemmas.List.{append-nil, length_push}
 use Rattle.std.proofs.lemmas.Option.{none-some, same_Some}
-use Rattle.hp_units.specs.Receipts.{receipt_of, receipts_of}
+use Rattle.hp_units.specs.Receipts.{receipts_of}
 use Rattle.hp_units.specs.declared.events.Event.{Event}
 use Rattle.hp_units.specs.declared.replies.Record.{Record}
 use Rattle.hp_units.specs.declared.replies.Receipt.{Receipt}
@@ -14,13 +14,15 @@ use Rattle.hp_schedules.specs.declared.scripts.Step.{Step}
 use Rattle.hp_schedules.specs.Interleavings.{AreOneCalls, IsCallCount, IsInterleaving, IsRoomNeeded, holds_no_plan, script_length, script_lengths}
 use Rattle.hp_schedules.specs.Multinomials.{IsMultinomial, sum, turns_of}
 use Rattle.hp_schedules.specs.Orders.{HasCount}
-use Rattle.hp_schedules.specs.Schedules.{IsComplete, Setting, outcome_after, next_call, play_one, plays, record_of_call}
-use Rattle.hp_schedules.specs.Scripts.{Known, known_of, next_in, next_of}
+use Rattle.hp_schedules.specs.Schedules.{IsComplete, Setting, outcome_after, next_call, plays, record_of_call}
+use Rattle.hp_schedules.specs.Scripts.{Known, known_of, next_in}
 use Rattle.hp_schedules.proofs.Coefficients.{only_one}
 use Rattle.hp_schedules.proofs.Counting.{same_count}
 use Rattle.hp_schedules.proofs.Interleaved.{HasTurns, interleaved, turns_cons}
+use Rattle.hp_schedules.proofs.Agreeing.{each_passes}
+use Rattle.hp_renumbering.proofs.Options.{cases_option}
 use Rattle.hp_schedules.proofs.OneCalls.{asks_once, skips, stays}
-use Rattle.hp_schedules.proofs.Plays.{from_news, plays_one, stays_none}
+use Rattle.hp_schedules.proofs.Plays.{from_news, stays_none}
 use Rattle.hp_schedules.proofs.Steps.{receipts_push}
 use Rattle.hp_schedules.proofs.Uniqueness.{only_count}
 
@@ -28,15 +30,6 @@ use Rattle.hp_schedules.proofs.Uniqueness.{only_count}
 
 abbrev AllOne : List Step → Type 0
 AllOne lines = holds_no_plan lines ≡ true
-
--- a script of such scripts is one
-one_script : (scripts : List (List Step)) (cpu : ℕ) (lines : List Step) → AreOneCalls scripts
-    → slice_get scripts cpu ≡ Some lines → AllOne lines
-one_script [] cpu lines all here = absurd cc
-one_script (first ∷ scripts) zero lines all here =
-    subst AllOne (same_Some first lines here) (and_parts _ _ all).0
-one_script (first ∷ scripts) (suc cpu) lines all here =
-    one_script scripts cpu lines (and_parts _ _ all).1 here
 
 -- lines ask for something where there are fewer receipts than lines
 asks : (cpus : ℕ) (known : Known) (lines : List Step) (rs : List Receipt) → AllOne lines
@@ -70,48 +63,34 @@ made cpu news = length (receipts_of cpu news)
 call_asks : (g : Setting) (cpu : ℕ) (news : List Record) → AreOneCalls g.scripts
     → made cpu news < script_length g.scripts cpu → (e : Event) × (next_call g cpu news ≡ Some e)
 unfolding next_call
-call_asks g cpu news all less = by_script (slice_get g.scripts cpu) refl less
-  where
-    by_script : (o : Option (List Step)) → slice_get g.scripts cpu ≡ o
-        → made cpu news < option_map_or (λ lines. length lines) o 0
-        → (e : Event) × (option_and_then (λ lines. next_of g.layout.cpus lines (receipts_of cpu news))
-        (slice_get g.scripts cpu) ≡ Some e)
-    by_script None is h = absurd (omega arith)
-    by_script (Some lines) is h =
-        let e =
-        asks g.layout.cpus (known_of (receipts_of cpu news)) lines (receipts_of cpu news)
-        (one_script g.scripts cpu lines all is) h in (
-          e.0,
-          ap (option_and_then (λ (ls : List Step). next_of g.layout.cpus ls (receipts_of cpu news))) is
-              ∙ e.1,
-        )
+call_asks g cpu news all less =
+    elim (cases_option (slice_get g.scripts cpu)) [
+      | inl none ↦ absurd (omega (arith, rw none at less))
+      | inr lines ↦ (let e =
+          asks g.layout.cpus (known_of (receipts_of cpu news)) lines.0 (receipts_of cpu news)
+          (each_passes holds_no_plan g.scripts cpu lines.0 all lines.1) (rw lines.1 at less) in
+          (e.0, rw lines.1 e.1))
+    ]
 
 call_none : (g : Setting) (cpu : ℕ) (news : List Record) → AreOneCalls g.scripts
     → script_length g.scripts cpu ≤ made cpu news → next_call g cpu news ≡ None
 unfolding next_call
-call_none g cpu news all le = by_script (slice_get g.scripts cpu) refl le
-  where
-    by_script : (o : Option (List Step)) → slice_get g.scripts cpu ≡ o
-        → option_map_or (λ lines. length lines) o 0 ≤ made cpu news
-        → option_and_then (λ lines. next_of g.layout.cpus lines (receipts_of cpu news))
-        (slice_get g.scripts cpu) ≡ None
-    by_script None is h =
-        ap (option_and_then (λ (ls : List Step). next_of g.layout.cpus ls (receipts_of cpu news))) is
-    by_script (Some lines) is h =
-        ap (option_and_then (λ (ls : List Step). next_of g.layout.cpus ls (receipts_of cpu news))) is
-        ∙ asks_none g.layout.cpus (known_of (receipts_of cpu news)) lines (receipts_of cpu news)
-        (one_script g.scripts cpu lines all is) h
+call_none g cpu news all le =
+    elim (cases_option (slice_get g.scripts cpu)) [
+      | inl none ↦ rw none
+      | inr lines ↦
+          rw lines.1 (asks_none g.layout.cpus (known_of (receipts_of cpu news)) lines.0 (receipts_of cpu news)
+          (each_passes holds_no_plan g.scripts cpu lines.0 all lines.1) (rw lines.1 at le))
+    ]
 
 -- a processor's call is one more of its own
 made_more : (g : Setting) (cpu c : ℕ) (news : List Record) (e : Event) (own : Bool) → eqb c cpu ≡ own
     → made cpu (news ++ record_of_call g news c e ∷ []) ≡ made cpu news + cond own 1 0
 unfolding record_of_call
 made_more g cpu c news e true own =
-    ap length (receipts_push cpu news (record_of_call g news c e) true own)
-    ∙ length_push (receipts_of cpu news) (receipt_of (record_of_call g news c e))
+    rw (receipts_push cpu news (record_of_call g news c e) true own, length_push)
 made_more g cpu c news e false own =
-    ap length (receipts_push cpu news (record_of_call g news c e) false own)
-    ∙ (ap length (append-nil (receipts_of cpu news)) ∙ omega arith)
+    rw (receipts_push cpu news (record_of_call g news c e) false own, append-nil) (omega arith)
 
 -- ---- schedules
 
@@ -119,46 +98,26 @@ made_more g cpu c news e false own =
 turns_made : (g : Setting) (cpu : ℕ) (s : List ℕ) (news end : List Record) → AreOneCalls g.scripts
     → from_news g news s ≡ Some end → made cpu news ≤ script_length g.scripts cpu
     → (made cpu end ≡ made cpu news + turns_of cpu s) × (made cpu end ≤ script_length g.scripts cpu)
-turns_made g cpu [] news end all is le =
-    let same : news ≡ end = same_Some news end is in (
-      ap (made cpu) (sym same)
-          ∙ omega arith,
-      subst (λ (h : List Record). made cpu h ≤ script_length g.scripts cpu) same le,
-    )
+turns_made g cpu [] news end all is le = rw (← same_Some news end is) (omega arith, le)
 turns_made g cpu (c ∷ s) news end all is le =
-    by_next (next_call g c news) refl (eqb c cpu) refl
-    (λ later on few. turns_made g cpu s later end all on few)
+    elim (cases_option (next_call g c news)) [
+      | inl none ↦ absurd (none-some end (sym (stays_none g s) ∙ (rw none at is)))
+      | inr e ↦ (let later =
+          turns_made g cpu s (news ++ record_of_call g news c e.0 ∷ []) end all (rw e.1 at is)
+          (room e.0 e.1 (eqb c cpu) refl) in
+          let one = made_more g cpu c news e.0 (eqb c cpu) refl in
+          (omega (arith, later.0, one, turns_cons cpu c s (eqb c cpu) refl), later.1))
+    ]
   where
-    by_next : (o : Option Event) → next_call g c news ≡ o → (own : Bool) → eqb c cpu ≡ own
-        → ((later : List Record) → from_news g later s ≡ Some end
-        → made cpu later ≤ script_length g.scripts cpu
-        → (made cpu end ≡ made cpu later + turns_of cpu s) × (made cpu end ≤ script_length g.scripts cpu))
-        → (made cpu end ≡ made cpu news + turns_of cpu (c ∷ s)) × (made cpu end ≤ script_length g.scripts cpu)
-    by_next None next own which rest =
-        absurd (none-some end
-        (sym (ap (λ (x : Option (List Record)). fold (play_one g) x s) (plays_one g news c None next)
-        ∙ stays_none g s) ∙ is))
-    by_next (Some e) next own which rest =
-        let more = made_more g cpu c news e own which in
-        let on : from_news g (news ++ record_of_call g news c e ∷ []) s ≡ Some end =
-        sym (ap (λ (x : Option (List Record)). fold (play_one g) x s) (plays_one g news c (Some e) next))
-        ∙ is in
-        let later = rest (news ++ record_of_call g news c e ∷ []) on (room own which more) in
-        (omega (arith, later.0, more, turns_cons cpu c s own which), later.1)
-      where
-        room : (own : Bool) → eqb c cpu ≡ own
-            → made cpu (news ++ record_of_call g news c e ∷ []) ≡ made cpu news + cond own 1 0
-            → made cpu (news ++ record_of_call g news c e ∷ []) ≤ script_length g.scripts cpu
-        room false which more = omega (arith, more, le)
-        room true which more =
-            let same : c ≡ cpu = eqb-true c cpu which in
-            elim (cases_lt (made cpu news) (script_length g.scripts cpu)) [
-              | inl less ↦ omega (arith, more, less)
-              | inr past ↦
-                  absurd (none-some e (sym
-                  (subst (λ (d : ℕ). next_call g d news ≡ None) (sym same) (call_none g cpu news all past))
-                  ∙ next))
-            ]
+    room : (e : Event) → next_call g c news ≡ Some e → (own : Bool) → eqb c cpu ≡ own
+        → made cpu (news ++ record_of_call g news c e ∷ []) ≤ script_length g.scripts cpu
+    room e next false which = omega (arith, made_more g cpu c news e false which)
+    room e next true which =
+        elim (cases_lt (made cpu news) (script_length g.scripts cpu)) [
+          | inl less ↦ omega (arith, made_more g cpu c news e true which)
+          | inr past ↦
+              absurd (none-some e (sym (call_none g c news all (rw (eqb-true c cpu which) past)) ∙ next))
+        ]
 
 -- a schedule in which each processor stands as often as its script has lines can be played
 turns_play : (g : Setting) (s : List ℕ) (news : List Record) → AreOneCalls g.scripts
@@ -169,16 +128,9 @@ turns_play g (c ∷ s) news all counts =
     let asked = call_asks g c news all (omega (arith, counts c, turns_cons c c s true (eq-eqb c c refl))) in
     let later =
     turns_play g s (news ++ record_of_call g news c asked.0 ∷ []) all
-    (λ cpu. by_owner cpu (eqb c cpu) refl asked.0) in (
-      later.0,
-      ap (λ (x : Option (List Record)). fold (play_one g) x s)
-          (plays_one g news c (Some asked.0) asked.1) ∙ later.1,
-    )
-  where
-    by_owner : (cpu : ℕ) (own : Bool) → eqb c cpu ≡ own → (e : Event)
-        → made cpu (news ++ record_of_call g news c e ∷ []) + turns_of cpu s ≡ script_length g.scripts cpu
-    by_owner cpu own which e =
-        omega (arith, counts cpu, turns_cons cpu c s own which, made_more g cpu c news e own which)
+    (λ cpu. let one = made_more g cpu c news asked.0 (eqb c cpu) refl in
+    omega (arith, counts cpu, turns_cons cpu c s (eqb c cpu) refl, one)) in
+    (later.0, rw asked.1 later.1)
 
 -- the complete schedules of such scripts are those in which each processor stands as often as its
 -- script has lines
@@ -239,14 +191,12 @@ complete_counted g all =
 pub counted_by_lengths : (g : Setting) (m : ℕ) → AreOneCalls g.scripts → HasCount (IsComplete g) m
     → IsMultinomial (script_lengths g.scripts) m
 counted_by_lengths g m all counted =
-    let one = complete_counted g all in
-    subst (IsMultinomial (script_lengths g.scripts)) (only_count (IsComplete g) one.0 m one.1 counted) one.2
+    let one = complete_counted g all in rw (← only_count (IsComplete g) one.0 m one.1 counted) one.2
 
 pub lengths_count : (g : Setting) (m : ℕ) → AreOneCalls g.scripts
     → IsMultinomial (script_lengths g.scripts) m → HasCount (IsComplete g) m
 lengths_count g m all is =
-    let one = complete_counted g all in
-    subst (HasCount (IsComplete g)) (only_one (script_lengths g.scripts) one.0 m one.2 is) one.1
+    let one = complete_counted g all in rw (← only_one (script_lengths g.scripts) one.0 m one.2 is) one.1
 
 -- ---- how many calls there are, and the room that they need
 

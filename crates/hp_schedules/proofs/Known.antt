@@ -1,5 +1,5 @@
 -- The digests of the ends have places.
-use Rattle.std.proofs.Common.{◌≡◌, ℕ, ◌+◌, true, false, List, [], ◌∷◌, ◌++◌, set, Some, None, slice_get, refl, ap, sym, subst, ◌∙◌, inl, inr, is_some}
+use Rattle.std.proofs.Common.{◌≡◌, ℕ, ◌+◌, true, false, List, [], ◌∷◌, ◌++◌, set, Some, None, slice_get, refl, ap, sym, ◌∙◌, inl, inr, is_some}
 use Rattle.std.specs.Prelude.{fold, nat_eq}
 use Rattle.std.proofs.lemmas.List.Sums.{fold-append}
 use Rattle.indexmap.specs.IndexMap.{ContainsKey, IndexMap, get}
@@ -17,18 +17,14 @@ pub digest_more : (news : List Record) (cpu digest part next : ℕ)
     → digest ≡ replies_digest (replies_below cpu news) → part ≡ fold mixed_reply 0 (replies_to cpu news)
     → next ≡ mixed digest part → next ≡ replies_digest (replies_below (cpu + 1) news)
 digest_more news cpu digest part next so_far is more =
-    more
-    ∙ (ap (λ (d : ℕ). mixed d part) so_far
-    ∙ (ap (mixed (replies_digest (replies_below cpu news))) is
-    ∙ (sym (fold-append mixed_replies 0 (replies_below cpu news) (replies_to cpu news ∷ []))
-    ∙ ap replies_digest (replies_more (replies_below cpu news) (replies_to cpu news) news cpu refl refl))))
+    rw (more, so_far, is, ← replies_more (replies_below cpu news) (replies_to cpu news) news cpu refl refl)
+    (sym (fold-append mixed_replies 0 (replies_below cpu news) (replies_to cpu news ∷ [])))
 
 -- where a digest has no place, no end has it
 pub unknown : {S : Type 0} (ends : List Ending) (x : OutcomeValue) (latest : IndexMap ℕ ℕ S) (digest : ℕ)
     → AreKnown ends latest → digest ≡ digest_of x → None ≡ get nat_eq latest digest → HasNoEnd ends x
 unknown ends x latest digest known is none k e here same =
-    let there : is_some (get nat_eq latest digest) ≡ true =
-    subst (λ (d : ℕ). is_some (get nat_eq latest d) ≡ true) (ap digest_of same ∙ sym is) (known k e here) in
+    let there : is_some (get nat_eq latest digest) ≡ true = rw (is, ← same) (known k e here) in
     let f : false ≡ true = ap is_some none ∙ there in
     absurd cc
 
@@ -38,9 +34,7 @@ pub known_set : {S : Type 0} (ends : List Ending) (place : ℕ) (e more : Ending
     → AreKnown (set ends place more) latest
 known_set ends place e more latest here same known k f h =
     elim (get_set_cases ends place more k f h) [
-      | inl now ↦
-          subst (λ (d : ℕ). ContainsKey nat_eq latest d)
-          (ap digest_of (sym same) ∙ ap (λ (g : Ending). digest_of g.outcome) now.1) (known place e here)
+      | inl now ↦ rw (← now.1, same) (known place e here)
       | inr old ↦ known k f old.1
     ]
 
@@ -51,9 +45,7 @@ pub known_first : {S : Type 0} (ends new : List Ending) (entry : Ending) (x : Ou
     → ((d : ℕ) → ContainsKey nat_eq old d → ContainsKey nat_eq latest d) → ContainsKey nat_eq latest digest
     → AreKnown ends old → AreKnown new latest
 known_first ends new entry x digest old latest outcome_is digest_is is kept here known k e h =
-    elim (get_push_cases ends entry e k (subst (λ (xs : List Ending). slice_get xs k ≡ Some e) is h)) [
+    elim (get_push_cases ends entry e k (rw is at h)) [
       | inl before ↦ kept (digest_of e.outcome) (known k e before)
-      | inr last ↦
-          subst (λ (d : ℕ). ContainsKey nat_eq latest d) (digest_is
-          ∙ (ap digest_of (sym outcome_is) ∙ ap (λ (g : Ending). digest_of g.outcome) last.1)) here
+      | inr last ↦ rw (← last.1, outcome_is, ← digest_is) here
     ]

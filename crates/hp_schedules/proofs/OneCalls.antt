@@ -1,6 +1,5 @@
 -- What lines ask for that are one call each.
-use Rattle.std.proofs.Common.{◌≡◌, ℕ, true, List, [], ◌∷◌, Option, Some, None, refl, ap, ◌∙◌}
-use Rattle.std.specs.Option.{option_map_or}
+use Rattle.std.proofs.Common.{◌≡◌, ℕ, true, List, [], ◌∷◌, Some, None, refl}
 use Rattle.hp_units.specs.declared.events.Event.{Event}
 use Rattle.hp_units.specs.declared.replies.Receipt.{Receipt}
 use Rattle.hp_schedules.specs.declared.scripts.Step.{Step}
@@ -25,23 +24,14 @@ over_once cpus known (Carry plan turns) r one = absurd cc
 -- so it is the first of several after no receipts, and over after the first receipt
 pub stays : (cpus : ℕ) (known : Known) (line : Step) (lines : List Step) → is_one_call line ≡ true
     → next_in cpus known (line ∷ lines) [] ≡ line_next cpus known line []
-stays cpus known line lines one =
-    let first = asks_once cpus known line one in
-    let on : after_line cpus known line [] [] ≡ None =
-    ap (λ (o : Option Event). option_map_or (λ event. None) o (Some [])) first.1 in
-    ap (λ (o : Option (List Receipt)).
-    option_map_or (λ rest. next_in cpus known lines rest) o (line_next cpus known line [])) on
+stays cpus known line lines one = let first = asks_once cpus known line one in rw first.1
 
 pub finished_once : (cpus : ℕ) (known : Known) (line : Step) (r : Receipt) (rs : List Receipt)
     → is_one_call line ≡ true → after_line cpus known line [] (r ∷ rs) ≡ Some rs
 finished_once cpus known line r rs one =
-    ap (λ (o : Option Event). option_map_or (λ event. after_line cpus known line (r ∷ []) rs) o
-    (Some (r ∷ rs)))
-    (asks_once cpus known line one).1 ∙ over_now cpus known line (r ∷ []) rs (over_once cpus known line r one)
+    let first = asks_once cpus known line one in
+    rw first.1 (over_now cpus known line (r ∷ []) rs (over_once cpus known line r one))
 
 pub skips : (cpus : ℕ) (known : Known) (line : Step) (lines : List Step) (r : Receipt) (rs : List Receipt)
     → is_one_call line ≡ true → next_in cpus known (line ∷ lines) (r ∷ rs) ≡ next_in cpus known lines rs
-skips cpus known line lines r rs one =
-    ap (λ (o : Option (List Receipt)).
-    option_map_or (λ rest. next_in cpus known lines rest) o (line_next cpus known line (r ∷ rs)))
-    (finished_once cpus known line r rs one)
+skips cpus known line lines r rs one = rw (finished_once cpus known line r rs one)

@@ -1,8 +1,9 @@
 -- What one record more makes of the operations that Cancels can take back whole.
-use Rattle.std.proofs.Common.{◌≡◌, ℕ, suc, ◌<◌, Bool, true, false, cond, eqb, List, [], ◌∷◌, ◌++◌, length, map, take, Option, Some, None, refl, ap, sym, subst, ◌∙◌, arith}
+use Rattle.std.proofs.Common.{◌≡◌, ℕ, suc, ◌<◌, Bool, true, false, cond, eqb, List, [], ◌∷◌, ◌++◌, length, map, take, Option, Some, None, refl, ap, subst, ◌∙◌, arith}
 use Rattle.std.specs.Prelude.{◌&&◌, option_map}
 use Rattle.std.proofs.lemmas.Bool.{eq-eqb, eqb-true}
 use Rattle.std.proofs.lemmas.List.{length-map, map-append, take-append-le, take_all}
+use Rattle.std.proofs.lemmas.List.Recursion.{and_push}
 use Rattle.std.proofs.lemmas.Option.{slice_get_within}
 use Rattle.hp_units.specs.History.{cut_or_add, effect_of, is_refused, net_with, net_with_effect, run}
 use Rattle.hp_units.specs.LayoutParts.{LayoutParts}
@@ -24,26 +25,14 @@ use Rattle.hp_schedules.proofs.Openings.{changed, openings_after}
 
 -- ---- where an operation is sole
 
-and_true : (b : Bool) → (b && true) ≡ b
-and_true true = refl
-and_true false = refl
-
 only_push : (op : ℕ) (ts : List Tag) (t : Tag)
     → holds_only_own_work op (ts ++ t ∷ []) ≡ (holds_only_own_work op ts && is_work_of op t.mark)
-only_push op [] t = and_true (is_work_of op t.mark)
-only_push op (u ∷ ts) t =
-    ap (λ (b : Bool). is_work_of op u.mark && b) (only_push op ts t)
-    ∙ grouped (is_work_of op u.mark) (holds_only_own_work op ts) (is_work_of op t.mark)
-  where
-    grouped : (a b c : Bool) → (a && (b && c)) ≡ ((a && b) && c)
-    grouped true b c = refl
-    grouped false b c = refl
+only_push op = and_push (holds_only_own_work op) (λ u. is_work_of op u.mark) refl (λ u us. refl)
 
 -- no Begin is an operation's own work
 begins_no_work : (op : ℕ) (m : Mark) (b : Bool) → (is_opening m && b) ≡ true → is_work_of op m ≡ false
 begins_no_work op Opens b h = refl
-begins_no_work op (Works other) b h = absurd cc
-begins_no_work op Other b h = absurd cc
+begins_no_work op m b h = absurd cc
 
 -- one step more: it begins the operation, or it is its own work and the operation was sole
 pub sole_push : (op : ℕ) (ts : List Tag) (t : Tag)
@@ -54,32 +43,16 @@ sole_push op [] t = by_tests (begins op t) (is_work_of op t.mark)
   where
     by_tests : (b w : Bool)
         → cond (b && true) (Some 0) (option_map suc None) ≡ cond b (Some 0) (cond w None None)
-    by_tests true w = refl
-    by_tests false true = refl
-    by_tests false false = refl
+    by_tests b w = grind arith
 sole_push op (u ∷ ts) t =
-    ap (λ (o : Option ℕ).
-    cond (begins op u && holds_only_own_work op (ts ++ t ∷ [])) (Some 0) (option_map suc o))
-    (sole_push op ts t)
-    ∙ (ap (λ (b : Bool). cond (begins op u && b) (Some 0) (option_map suc
-    (cond (begins op t) (Some (length ts)) (cond (is_work_of op t.mark) (sole_at op ts) None))))
-    (only_push op ts t)
-    ∙ by_tests (begins op t) (is_work_of op t.mark) (begins op u) (holds_only_own_work op ts) (length ts)
+    rw (sole_push op ts t, only_push op ts t)
+    (by_tests (begins op t) (is_work_of op t.mark) (begins op u) (holds_only_own_work op ts) (length ts)
     (sole_at op ts) (begins_no_work op t.mark (eqb t.serial op)))
   where
     by_tests : (b w u o : Bool) (n : ℕ) (s : Option ℕ) → (b ≡ true → w ≡ false)
         → cond (u && (o && w)) (Some 0) (option_map suc (cond b (Some n) (cond w s None)))
         ≡ cond b (Some (suc n)) (cond w (cond (u && o) (Some 0) (option_map suc s)) None)
-    by_tests true true u o n s apart = absurd (let h : true ≡ false = apart refl in cc)
-    by_tests true false true true n s apart = refl
-    by_tests true false true false n s apart = refl
-    by_tests true false false o n s apart = refl
-    by_tests false true true true n s apart = refl
-    by_tests false true true false n s apart = refl
-    by_tests false true false o n s apart = refl
-    by_tests false false true true n s apart = refl
-    by_tests false false true false n s apart = refl
-    by_tests false false false o n s apart = refl
+    by_tests b w u o n s apart = grind arith
 
 -- the same of records
 sole_more : (op : ℕ) (net : List Record) (r : Record) (m : Mark) → mark_of r.event ≡ m
@@ -87,12 +60,7 @@ sole_more : (op : ℕ) (net : List Record) (r : Record) (m : Mark) → mark_of r
     ≡ cond (is_opening m && eqb r.serial op) (Some (length net))
     (cond (is_work_of op m) (sole_at op (map tag_of net)) None)
 sole_more op net r m is =
-    ap (sole_at op) (map-append tag_of net (r ∷ []))
-    ∙ (sole_push op (map tag_of net) (tag_of r)
-    ∙ (ap (λ (n : Mark). cond (is_opening n && eqb r.serial op) (Some (length (map tag_of net)))
-    (cond (is_work_of op n) (sole_at op (map tag_of net)) None)) is
-    ∙ ap (λ (k : ℕ). cond (is_opening m && eqb r.serial op) (Some k)
-    (cond (is_work_of op m) (sole_at op (map tag_of net)) None)) (length-map net tag_of)))
+    rw (map-append tag_of net (r ∷ []), sole_push op (map tag_of net) (tag_of r), is, length-map)
 
 -- the steps before a sole operation's Begin are the same with one step more
 before_place : (op : ℕ) (net : List Record) (r : Record) (place : ℕ)
@@ -109,12 +77,8 @@ before_place op net r place sole =
 begun : (l : LayoutParts) (base : Memory) (net : List Record) (was : List Opening) (r : Record)
     → mark_of r.event ≡ Opens → AreOpen l base net was
     → AreOpen l base (net ++ r ∷ []) (record { op = r.serial; memory = run l base net } ∷ was)
-begun l base net was r is open_before = (
-  length net,
-  λ op. sole_more op net r Opens is,
-  ap (run l base) (sym front),
-  subst (λ (steps : List Record). AreOpen l base steps was) (sym front) open_before,
-)
+begun l base net was r is open_before =
+    (length net, λ op. sole_more op net r Opens is, rw front, rw front open_before)
   where
     front : take (length net) (net ++ r ∷ []) ≡ net
     front =
@@ -129,44 +93,29 @@ none_open l base net r is = λ op. sole_more op net r Other is
 worked : (l : LayoutParts) (base : Memory) (net : List Record) (was : List Opening) (r : Record) (op : ℕ)
     → mark_of r.event ≡ Works op → AreOpen l base net was → AreOpen l base (net ++ r ∷ []) (after_work op was)
 worked l base net [] r op is nothing =
-    λ other. sole_more other net r (Works op) is
-    ∙ by_test (eqb op other) (sole_at other (map tag_of net)) (nothing other)
-  where
-    by_test : (b : Bool) (o : Option ℕ) → o ≡ None → cond b o None ≡ None
-    by_test true o none = none
-    by_test false o none = refl
+    λ other. rw (sole_more other net r (Works op) is, nothing other)
+    (elim (eqb op other) as (λ b. cond {A = Option ℕ} b None None ≡ None) [ true ↦ refl | false ↦ refl ])
 worked l base net (o ∷ os) r op is some = by_first (eqb o.op op) refl
   where
     sole : (other : ℕ) → sole_at other (map tag_of (net ++ r ∷ []))
         ≡ cond (eqb op other) (cond (eqb o.op other) (Some some.0) None) None
-    sole other =
-        sole_more other net r (Works op) is
-        ∙ ap (λ (found : Option ℕ). cond (eqb op other) found None) (some.1 other)
+    sole other = rw (sole_more other net r (Works op) is, some.1 other)
 
     front : take some.0 (net ++ r ∷ []) ≡ take some.0 net
     front =
-        before_place o.op net r some.0
-        (some.1 o.op ∙ ap (λ (b : Bool). cond b (Some some.0) None) (eq-eqb o.op o.op refl))
+        before_place o.op net r some.0 (rw (some.1 o.op, eq-eqb o.op o.op refl))
 
     twice : (b : Bool) → cond b (cond b (Some some.0) None) None ≡ cond b (Some some.0) None
     twice true = refl
     twice false = refl
 
     kept : o.op ≡ op → AreOpen l base (net ++ r ∷ []) (o ∷ os)
-    kept same = (
-      some.0,
-      λ other. sole other
-          ∙ (ap (λ (n : ℕ). cond (eqb n other) (cond (eqb o.op other) (Some some.0) None) None) (sym same)
-          ∙ twice (eqb o.op other)),
-      some.2 ∙ ap (run l base) (sym front),
-      subst (λ (steps : List Record). AreOpen l base steps os) (sym front) some.3,
-    )
+    kept same =
+        (some.0, λ other. rw (sole other, ← same) (twice (eqb o.op other)), rw front some.2, rw front some.3)
 
     apart : eqb o.op op ≡ false → (other : ℕ) → (b : Bool) → eqb op other ≡ b
         → cond b (cond (eqb o.op other) (Some some.0) None) None ≡ None
-    apart differ other true same =
-        ap (λ (n : ℕ). cond (eqb o.op n) (Some some.0) None) (sym (eqb-true op other same))
-        ∙ ap (λ (b : Bool). cond b (Some some.0) None) differ
+    apart differ other true same = rw (← eqb-true op other same, differ)
     apart differ other false same = refl
 
     by_first : (b : Bool) → eqb o.op op ≡ b → AreOpen l base (net ++ r ∷ []) (cond b (o ∷ os) [])
@@ -178,16 +127,11 @@ cancelled : (l : LayoutParts) (base : Memory) (net : List Record) (was : List Op
     → mark_of r.event ≡ Other → AreOpen l base net was
     → AreOpen l base (cut_or_add net r (sole_at op (map tag_of net))) (after_cancel op was)
 cancelled l base net [] r op is nothing =
-    subst (λ (found : Option ℕ). AreOpen l base (cut_or_add net r found) []) (sym (nothing op))
-    (none_open l base net r is)
+    rw (nothing op) (none_open l base net r is)
 cancelled l base net (o ∷ os) r op is some =
-    subst (λ (found : Option ℕ). AreOpen l base (cut_or_add net r found) (after_cancel op (o ∷ os)))
-    (sym (some.1 op)) (by_first (eqb o.op op))
-  where
-    by_first : (b : Bool)
-        → AreOpen l base (cut_or_add net r (cond b (Some some.0) None)) (cond b os [])
-    by_first true = some.3
-    by_first false = none_open l base net r is
+    rw (some.1 op) (elim (eqb o.op op) as (λ b.
+    AreOpen l base (cut_or_add net r (cond b (Some some.0) None)) (cond b os []))
+    [ true ↦ some.3 | false ↦ none_open l base net r is ])
 
 -- one record more
 pub open_more : (l : LayoutParts) (base : Memory) (net : List Record) (was : List Opening) (r : Record)
@@ -210,10 +154,7 @@ open_more l base net was r leaves h = by_reply (is_refused r.reply) refl
         → AreOpen l base (net_with net r)
         (changed (run l base net) r.serial was (cond refused Stays (change_by r.event)))
     by_reply true is = subst (λ (steps : List Record). AreOpen l base steps was) (net_bad net r is) h
-    by_reply false is =
-        subst (λ (steps : List Record).
-        AreOpen l base steps (changed (run l base net) r.serial was (change_by r.event)))
-        (sym (with_good net r is)) (by_event r.event refl leaves)
+    by_reply false is = rw (with_good net r is) (by_event r.event refl leaves)
 
 -- after a step of no operation nothing is open, whatever was
 pub none_after : (l : LayoutParts) (base : Memory) (net : List Record) (r : Record)
@@ -233,6 +174,4 @@ none_after l base net r leaves ends = by_reply (is_refused r.reply) refl ends
     by_reply : (refused : Bool) → is_refused r.reply ≡ refused
         → cond refused Stays (change_by r.event) ≡ Ends → AreOpen l base (net_with net r) []
     by_reply true is told = absurd cc
-    by_reply false is told =
-        subst (λ (steps : List Record). AreOpen l base steps []) (sym (with_good net r is))
-        (by_event r.event refl leaves told)
+    by_reply false is told = rw (with_good net r is) (by_event r.event refl leaves told)

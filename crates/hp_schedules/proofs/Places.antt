@@ -19,8 +19,7 @@ use Rattle.hp_schedules.specs.Outcomes.{OutcomeValue, outcome_with, replies_belo
 pub none_more : (ends : List Ending) (x : OutcomeValue) (at : ℕ) (e : Ending) → HasNoEnd (take at ends) x
     → slice_get ends at ≡ Some e → (e.outcome ≡ x → ⊥) → HasNoEnd (take (at + 1) ends) x
 none_more ends x at e none here differs k f h same =
-    elim (get_push_cases (take at ends) e f k
-    (subst (λ (xs : List Ending). slice_get xs k ≡ Some f) (take_one ends at e here) h)) [
+    elim (get_push_cases (take at ends) e f k (rw (take_one ends at e here) at h)) [
       | inl old ↦ none k f old same
       | inr new ↦ differs (ap (λ (g : Ending). g.outcome) new.1 ∙ same)
     ]
@@ -35,9 +34,7 @@ pub replies_more : (all : List (List Reply)) (answers : List Reply) (news : List
     → all ≡ replies_below cpu news → answers ≡ replies_to cpu news
     → all ++ answers ∷ [] ≡ replies_below (cpu + 1) news
 replies_more all answers news cpu so_far is =
-    ap (λ (xs : List (List Reply)). xs ++ answers ∷ []) so_far
-    ∙ (ap (λ (y : List Reply). replies_below cpu news ++ y ∷ []) is
-    ∙ sym (map-range_with_len_more (λ (c : ℕ). replies_to c news) 0 cpu cpu (omega arith)))
+    rw (so_far, is) (sym (map-range_with_len_more (λ (c : ℕ). replies_to c news) 0 cpu cpu (omega arith)))
 
 -- ---- one schedule more
 
@@ -46,10 +43,7 @@ pub outcome_told : (all : List (List Reply)) (rows : List Row) (x : OutcomeValue
     (news : List Record)
     → x ≡ record { replies = all; blocks = rows } → all ≡ replies_below processors news
     → x ≡ outcome_with processors news rows
-outcome_told all rows x processors news is replies = is ∙ ap (told_so rows) replies
-  where
-    told_so : List Row → List (List Reply) → OutcomeValue
-    told_so rows all = record { replies = all; blocks = rows }
+outcome_told all rows x processors news is replies = rw (is, replies)
 
 -- an end in a list that is shown
 pub end_shown : (shown ends : List Ending) (x : OutcomeValue) (place : ℕ) → shown ≡ ends
@@ -89,12 +83,6 @@ pub total_first : (ends new : List Ending) (entry : Ending) (total limit : ℕ) 
     → new ≡ ends ++ entry ∷ [] → total ≡ sum_by (λ (f : Ending). f.count) ends → total < limit
     → (total + 1 ≡ sum_by (λ (f : Ending). f.count) new) × (total + 1 ≤ limit)
 total_first ends new entry total limit one is sum less = (
-  omega (
-    arith,
-    ap (sum_by (λ (f : Ending). f.count)) is,
-    sum_by_push (λ (f : Ending). f.count) ends entry,
-    one,
-    sum,
-  ),
+  omega (arith, ap (sum_by (λ (f : Ending). f.count)) is, sum_by_push (λ (f : Ending). f.count) ends entry),
   omega arith,
 )

@@ -1,19 +1,17 @@
 -- Where a schedule leads to, by what it begins with.
-use Rattle.std.proofs.Common.{◌≡◌, ℕ, ◌<◌, ◌≤◌, List, [], ◌∷◌, ◌++◌, length, Option, Some, None, refl, ap, sym, subst, ◌∙◌, inl, inr}
-use Rattle.std.specs.Prelude.{fold, option_map, option_and_then}
+use Rattle.std.proofs.Common.{◌≡◌, ℕ, ◌<◌, ◌≤◌, List, [], ◌∷◌, ◌++◌, length, Option, Some, None, refl, ap, sym, ◌∙◌, inl, inr}
+use Rattle.std.specs.Prelude.{fold, option_map}
 use Rattle.std.proofs.lemmas.Bool.{cases_lt}
 use Rattle.std.proofs.lemmas.List.{append_assoc, append-nil}
 use Rattle.std.proofs.lemmas.List.Sums.{fold-append}
 use Rattle.std.proofs.lemmas.Option.{none-some, same_Some, slice_get_past}
-use Rattle.hp_units.specs.Receipts.{receipts_of}
 use Rattle.hp_units.specs.declared.events.Event.{Event}
 use Rattle.hp_units.specs.declared.replies.Record.{Record}
 use Rattle.hp_units.specs.declared.replies.Reply.{Reply}
 use Rattle.hp_schedules.specs.Outcomes.{OutcomeValue}
-use Rattle.hp_schedules.specs.declared.scripts.Step.{Step}
 use Rattle.hp_schedules.specs.Orders.{Extends}
 use Rattle.hp_schedules.specs.Schedules.{EndsWith, Setting, outcome_after, next_call, play_one, plays, record_of_call}
-use Rattle.hp_schedules.specs.Scripts.{next_of}
+use Rattle.hp_renumbering.proofs.Options.{cases_option}
 
 -- what is played from some records on
 abbrev pub from_news : Setting → List Record → List ℕ → Option (List Record)
@@ -49,26 +47,18 @@ plays_one g news cpu next is = ap (option_map (λ event. news ++ record_of_call 
 pub plays_push : (g : Setting) (p : List ℕ) (news : List Record) (cpu : ℕ) (event : Event)
     → plays g p ≡ Some news → next_call g cpu news ≡ Some event
     → plays g (p ++ cpu ∷ []) ≡ Some (news ++ record_of_call g news cpu event ∷ [])
-plays_push g p news cpu event played asked =
-    plays_on g p (cpu ∷ [])
-    ∙ (ap (λ (o : Option (List Record)). play_one g o cpu) played ∙ plays_one g news cpu (Some event) asked)
+plays_push g p news cpu event played asked = rw (plays_on g p (cpu ∷ []), played, asked)
 
 -- no schedule goes on by a processor whose script asks for nothing
 pub stops : (g : Setting) (p rest : List ℕ) (news : List Record) (cpu : ℕ) → plays g p ≡ Some news
     → next_call g cpu news ≡ None → plays g (p ++ cpu ∷ rest) ≡ None
-stops g p rest news cpu played over =
-    plays_on g p (cpu ∷ rest)
-    ∙ (ap (λ (o : Option (List Record)). fold (play_one g) (play_one g o cpu) rest) played
-    ∙ (ap (λ (o : Option (List Record)). fold (play_one g) o rest) (plays_one g news cpu None over)
-    ∙ stays_none g rest))
+stops g p rest news cpu played over = rw (plays_on g p (cpu ∷ rest), played, over) (stays_none g rest)
 
 -- a processor that has no script asks for nothing
 pub none_past : (g : Setting) (news : List Record) (cpu : ℕ) → length g.scripts ≤ cpu
     → next_call g cpu news ≡ None
 unfolding next_call
-none_past g news cpu past =
-    ap (option_and_then (λ (lines : List Step). next_of g.layout.cpus lines (receipts_of cpu news)))
-    (slice_get_past g.scripts cpu past)
+none_past g news cpu past = rw (slice_get_past g.scripts cpu past)
 
 -- so whoever asks has one
 pub asks_within : (g : Setting) (news : List Record) (cpu : ℕ) (event : Event)
@@ -97,9 +87,7 @@ only_this g p news s x played over extends ends = by_rest extends.0 extends.1
     by_rest : (rest : List ℕ) → s ≡ p ++ rest → (s ≡ p) × (x ≡ outcome_after g news)
     by_rest [] is =
         let same : s ≡ p = is ∙ append-nil p in
-        let news_same : ends.news ≡ news =
-        same_Some ends.news news (sym ends.played ∙ (ap (plays g) same ∙ played)) in
-        (same, sym ends.ends ∙ ap (outcome_after g) news_same)
+        (same, rw (← ends.ends, same_Some ends.news news (sym ends.played ∙ (ap (plays g) same ∙ played))))
     by_rest (cpu ∷ rest) is =
         absurd (none-some ends.news
         (sym (ap (plays g) is ∙ stops g p rest news cpu played (over cpu)) ∙ ends.played))
@@ -111,22 +99,19 @@ pub goes_on : (g : Setting) (p : List ℕ) (news : List Record) (cpu : ℕ) (eve
     → (next : ℕ) × (next < length g.scripts) × Extends s (p ++ next ∷ [])
 goes_on g p news cpu event s x played asked extends ends = by_rest extends.0 extends.1
   where
-    by_next : (c : ℕ) (rest : List ℕ) → s ≡ p ++ c ∷ rest → (next : Option Event) → next_call g c news ≡ next
-        → (next : ℕ) × (next < length g.scripts) × Extends s (p ++ next ∷ [])
-    by_next c rest is None over =
-        absurd (none-some ends.news (sym (ap (plays g) is ∙ stops g p rest news c played over) ∙ ends.played))
-    by_next c rest is (Some e) asks =
-        (c, asks_within g news c e asks, (rest, is ∙ sym (append_assoc p (c ∷ []) rest)))
-
     by_rest : (rest : List ℕ) → s ≡ p ++ rest
         → (next : ℕ) × (next < length g.scripts) × Extends s (p ++ next ∷ [])
     by_rest [] is =
         let same : s ≡ p = is ∙ append-nil p in
         let news_same : ends.news ≡ news =
         same_Some ends.news news (sym ends.played ∙ (ap (plays g) same ∙ played)) in
-        absurd (none-some event
-        (sym (subst (λ (h : List Record). next_call g cpu h ≡ None) news_same (ends.over cpu)) ∙ asked))
-    by_rest (c ∷ rest) is = by_next c rest is (next_call g c news) refl
+        absurd (none-some event (sym (rw news_same at (ends.over cpu)) ∙ asked))
+    by_rest (c ∷ rest) is =
+        elim (cases_option (next_call g c news)) [
+          | inl none ↦ absurd (none-some ends.news
+              (sym (ap (plays g) is ∙ stops g p rest news c played none) ∙ ends.played))
+          | inr e ↦ (c, asks_within g news c e.0 e.1, (rest, is ∙ sym (append_assoc p (c ∷ []) rest)))
+        ]
 
 -- the schedule that comes there is complete
 pub complete : (g : Setting) (p : List ℕ) (news : List Record) → plays g p ≡ Some news

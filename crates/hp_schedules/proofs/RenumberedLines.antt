@@ -1,12 +1,13 @@
 -- What lines call after receipts that are the same but for the numbers of operations.
-use Rattle.std.proofs.Common.{◌≡◌, ℕ, ◌+◌, ◌-◌, Bool, true, false, cond, ltb, List, [], ◌∷◌, ◌++◌, Option, Some, None, refl, ap, sym, subst, ◌∙◌, arith}
+use Rattle.std.proofs.Common.{◌≡◌, ℕ, ◌+◌, ◌-◌, Bool, cond, ltb, List, [], ◌∷◌, ◌++◌, Option, Some, None, refl, ap, sym, ◌∙◌, arith, inl, inr}
 use Rattle.std.specs.Prelude.{option_map}
 use Rattle.std.specs.Option.{option_map_or}
+use Rattle.std.proofs.lemmas.Bool.{cases_Bool}
 use Rattle.std.proofs.lemmas.List.{append-nil, append_assoc}
 use Rattle.hp_ops.proofs.Receipts.{count_push, left_is, next_push}
 use Rattle.hp_units.specs.Driver.{is_migrate, migrate_or_cancel, next_after, next_drain, next_event, tried}
 use Rattle.hp_units.specs.declared.events.Event.{Event}
-use Rattle.hp_units.specs.declared.events.Event.TheVariants.{Begin, DrainFor, Migrate, Commit, Cancel}
+use Rattle.hp_units.specs.declared.events.Event.TheVariants.{Begin, DrainFor, Migrate, Commit}
 use Rattle.hp_units.specs.declared.plans.Item.{Item}
 use Rattle.hp_units.specs.declared.replies.Receipt.{Receipt}
 use Rattle.hp_units.specs.declared.replies.Refusal.TheVariants.{NoFrame, NothingToMove, NotFree}
@@ -25,22 +26,12 @@ use Rattle.hp_schedules.proofs.Unnumbered.{after_same}
 
 turn_renumbered : (f : ℕ → ℕ) (turns op : ℕ) (rs : List Receipt)
     → renumbered_event f (migrate_or_cancel turns op rs) ≡ migrate_or_cancel turns (f op) rs
-turn_renumbered f turns op rs = by_left (ltb (tried rs) turns)
-  where
-    by_left : (left : Bool) → renumbered_event f (cond left (Migrate op) (Cancel op))
-        ≡ cond left (Migrate (f op)) (Cancel (f op))
-    by_left true = refl
-    by_left false = refl
+turn_renumbered f turns op rs = elim (cases_Bool (ltb (tried rs) turns)) [ inl e ↦ rw e | inr e ↦ rw e ]
 
 drain_renumbered : (f : ℕ → ℕ) (cpus turns op cpu : ℕ) (rs : List Receipt)
     → renumbered_event f (next_drain cpus turns op cpu rs) ≡ next_drain cpus turns (f op) cpu rs
-drain_renumbered f cpus turns op cpu rs = by_cpu (ltb cpu cpus)
-  where
-    by_cpu : (more : Bool)
-        → renumbered_event f (cond more (DrainFor op cpu) (migrate_or_cancel turns op rs))
-        ≡ cond more (DrainFor (f op) cpu) (migrate_or_cancel turns (f op) rs)
-    by_cpu true = refl
-    by_cpu false = turn_renumbered f turns op rs
+drain_renumbered f cpus turns op cpu rs =
+    elim (cases_Bool (ltb cpu cpus)) [ inl e ↦ rw e | inr e ↦ rw e (turn_renumbered f turns op rs) ]
 
 -- what is next after an event and its reply
 after_renumbered : (f : ℕ → ℕ) (cpus turns : ℕ) (rs : List Receipt) (e : Event) (reply : Reply)
@@ -69,15 +60,12 @@ pub alike_push : (p q : ℕ → ℕ) (cpus turns : ℕ) (plan : List Item) (xs y
     → GoAlike p q cpus turns plan (xs ++ r ∷ []) (ys ++ s ∷ [])
 alike_push p q cpus turns plan xs ys r s one alike = record {
   next =
-      ap (option_map (renumbered_event p)) (next_push cpus turns plan xs r)
-      ∙ (after_renumbered p cpus turns (xs ++ r ∷ []) r.event r.reply
-      ∙ (ap (λ (e : Event). next_after cpus turns (xs ++ r ∷ []) e (renumbered_reply p r.reply)) one.event
-      ∙ (ap (next_after cpus turns (xs ++ r ∷ []) (renumbered_event q s.event)) one.told
-      ∙ (after_same cpus turns (xs ++ r ∷ []) (ys ++ s ∷ [])
+      rw (next_push cpus turns plan xs r, next_push cpus turns plan ys s)
+      (rw (after_renumbered p cpus turns (xs ++ r ∷ []) r.event r.reply)
+      (rw (after_renumbered q cpus turns (ys ++ s ∷ []) s.event s.reply, one.event, one.told)
+      (after_same cpus turns (xs ++ r ∷ []) (ys ++ s ∷ [])
       (is_left (xs ++ r ∷ []) ∙ (ap (ltb 0) left ∙ sym (is_left (ys ++ s ∷ []))))
-      (renumbered_event q s.event) (renumbered_reply q s.reply)
-      ∙ (sym (after_renumbered q cpus turns (ys ++ s ∷ []) s.event s.reply)
-      ∙ sym (ap (option_map (renumbered_event q)) (next_push cpus turns plan ys s)))))));
+      (renumbered_event q s.event) (renumbered_reply q s.reply))));
   left = left;
 }
   where
@@ -87,14 +75,7 @@ alike_push p q cpus turns plan xs ys r s one alike = record {
         (λ op other. refl) p q r.event s.event one.event
 
     left : turns - tried (xs ++ r ∷ []) ≡ turns - tried (ys ++ s ∷ [])
-    left =
-        omega (
-          arith,
-          alike.left,
-          count_push xs r,
-          count_push ys s,
-          ap {B = ℕ} (λ (b : Bool). cond b 1 0) migrates,
-        )
+    left = omega (arith, count_push xs r, count_push ys s, ap {B = ℕ} (λ (b : Bool). cond b 1 0) migrates)
 
     is_left : (rs : List Receipt) → ltb (tried rs) turns ≡ ltb 0 (turns - tried rs)
     is_left rs = left_is (tried rs) turns (turns - tried rs) refl (ltb (tried rs) turns) refl
@@ -102,16 +83,12 @@ alike_push p q cpus turns plan xs ys r s one alike = record {
 pub alike_later : (p q : ℕ → ℕ) (cpus turns : ℕ) (plan : List Item) (xs ys later others : List Receipt)
     → AreSameReceipts p q later others → GoAlike p q cpus turns plan xs ys
     → GoAlike p q cpus turns plan (xs ++ later) (ys ++ others)
-alike_later p q cpus turns plan xs ys [] [] same alike =
-    subst (λ (rs : List Receipt). GoAlike p q cpus turns plan rs (ys ++ [])) (sym (append-nil xs))
-    (subst (λ (rs : List Receipt). GoAlike p q cpus turns plan xs rs) (sym (append-nil ys)) alike)
-alike_later p q cpus turns plan xs ys [] (s ∷ ss) same alike = absurd same
-alike_later p q cpus turns plan xs ys (r ∷ rs) [] same alike = absurd same
+alike_later p q cpus turns plan xs ys [] [] same alike = rw (append-nil xs, append-nil ys) alike
 alike_later p q cpus turns plan xs ys (r ∷ rs) (s ∷ ss) same alike =
-    subst (λ (zs : List Receipt). GoAlike p q cpus turns plan zs (ys ++ s ∷ ss)) (append_assoc xs (r ∷ []) rs)
-    (subst (λ (zs : List Receipt). GoAlike p q cpus turns plan ((xs ++ r ∷ []) ++ rs) zs)
-    (append_assoc ys (s ∷ []) ss) (alike_later p q cpus turns plan (xs ++ r ∷ []) (ys ++ s ∷ []) rs ss
-    same.1 (alike_push p q cpus turns plan xs ys r s same.0 alike)))
+    rw (← append_assoc xs (r ∷ []) rs, ← append_assoc ys (s ∷ []) ss)
+    (alike_later p q cpus turns plan (xs ++ r ∷ []) (ys ++ s ∷ []) rs ss same.1
+    (alike_push p q cpus turns plan xs ys r s same.0 alike))
+alike_later p q cpus turns plan xs ys later others same alike = absurd same
 
 -- before its first call
 pub begin_alike : (p q : ℕ → ℕ) (cpus turns : ℕ) (plan : List Item) → GoAlike p q cpus turns plan [] []
@@ -139,11 +116,8 @@ rest_alike p q cpus a b turns plan xs ys [] [] same alike =
         → AreSameRests p q (option_map_or (λ event. None) o (Some []))
         (option_map_or (λ event. None) u (Some []))
     by_next None None are = tt
-    by_next None (Some d) are = absurd cc
-    by_next (Some e) None are = absurd cc
     by_next (Some e) (Some d) are = tt
-rest_alike p q cpus a b turns plan xs ys [] (s ∷ ss) same alike = absurd same
-rest_alike p q cpus a b turns plan xs ys (r ∷ rs) [] same alike = absurd same
+    by_next o u are = absurd cc
 rest_alike p q cpus a b turns plan xs ys (r ∷ rs) (s ∷ ss) same alike =
     by_next (next_event cpus turns plan xs) (next_event cpus turns plan ys) alike.next
     (rest_alike p q cpus a b turns plan (xs ++ r ∷ []) (ys ++ s ∷ []) rs ss same.1
@@ -156,9 +130,9 @@ rest_alike p q cpus a b turns plan xs ys (r ∷ rs) (s ∷ ss) same alike =
         (option_map_or (λ event. after_line cpus a (Carry plan turns) (xs ++ r ∷ []) rs) o (Some (r ∷ rs)))
         (option_map_or (λ event. after_line cpus b (Carry plan turns) (ys ++ s ∷ []) ss) u (Some (s ∷ ss)))
     by_next None None are later = same
-    by_next None (Some d) are later = absurd cc
-    by_next (Some e) None are later = absurd cc
     by_next (Some e) (Some d) are later = later
+    by_next o u are later = absurd cc
+rest_alike p q cpus a b turns plan xs ys later others same alike = absurd same
 
 -- ---- what lines call
 
@@ -182,9 +156,8 @@ by_rests : (p q : ℕ → ℕ) (cpus : ℕ) (a b : Known) (lines : List Step) (o
     → option_map (renumbered_event p) (option_map_or (λ rest. next_in cpus a lines rest) o e)
     ≡ option_map (renumbered_event q) (option_map_or (λ rest. next_in cpus b lines rest) u d)
 by_rests p q cpus a b lines None None e d are calls later = calls
-by_rests p q cpus a b lines None (Some others) e d are calls later = absurd are
-by_rests p q cpus a b lines (Some rest) None e d are calls later = absurd are
 by_rests p q cpus a b lines (Some rest) (Some others) e d are calls later = later rest others are
+by_rests p q cpus a b lines o u e d are calls later = absurd are
 
 -- lines whose first one has these receipts already
 pub carried_alike : (p q : ℕ → ℕ) (cpus : ℕ) (a b : Known) (turns : ℕ) (plan : List Item) (lines : List Step)
@@ -202,10 +175,7 @@ carried_alike p q cpus a b turns plan lines xs ys later others same first second
     by_rests p q cpus a b lines (after_line cpus a (Carry plan turns) [] (xs ++ later))
     (after_line cpus b (Carry plan turns) [] (ys ++ others))
     (next_event cpus turns plan (xs ++ later)) (next_event cpus turns plan (ys ++ others))
-    (subst (λ (o : Option (List Receipt)).
-    AreSameRests p q o (after_line cpus b (Carry plan turns) [] (ys ++ others))) (sym first)
-    (subst (AreSameRests p q (after_line cpus a (Carry plan turns) xs later)) (sym second)
-    (rest_alike p q cpus a b turns plan xs ys later others same alike)))
+    (rw (first, second) (rest_alike p q cpus a b turns plan xs ys later others same alike))
     (alike_later p q cpus turns plan xs ys later others same alike).next on
 
 -- lines from their beginning
@@ -214,19 +184,12 @@ pub next_alike : (p q : ℕ → ℕ) (cpus : ℕ) (a b : Known) (lines : List St
     → option_map (renumbered_event p) (next_in cpus a lines xs)
     ≡ option_map (renumbered_event q) (next_in cpus b lines ys)
 next_alike p q cpus a b [] xs ys agree same = refl
-next_alike p q cpus a b (line ∷ lines) [] (s ∷ ys) agree same = absurd same
-next_alike p q cpus a b (line ∷ lines) (r ∷ xs) [] agree same = absurd same
-next_alike p q cpus a b (Ask event ∷ lines) [] [] agree same = ap Some agree.0
-next_alike p q cpus a b (Own work ∷ lines) [] [] agree same = ap Some agree.0
 next_alike p q cpus a b (Carry plan turns ∷ lines) xs ys agree same =
     carried_alike p q cpus a b turns plan lines [] [] xs ys same refl refl
     (begin_alike p q cpus turns plan)
     (λ rest left are. next_alike p q cpus a b lines rest left agree.1 are)
-next_alike p q cpus a b (Ask event ∷ lines) (r ∷ xs) (s ∷ ys) agree same =
-    ap (option_map (renumbered_event p)) (skips cpus a (Ask event) lines r xs refl)
-    ∙ (next_alike p q cpus a b lines xs ys agree.1 same.1
-    ∙ sym (ap (option_map (renumbered_event q)) (skips cpus b (Ask event) lines s ys refl)))
-next_alike p q cpus a b (Own work ∷ lines) (r ∷ xs) (s ∷ ys) agree same =
-    ap (option_map (renumbered_event p)) (skips cpus a (Own work) lines r xs refl)
-    ∙ (next_alike p q cpus a b lines xs ys agree.1 same.1
-    ∙ sym (ap (option_map (renumbered_event q)) (skips cpus b (Own work) lines s ys refl)))
+next_alike p q cpus a b (line ∷ lines) [] [] agree same = ap Some agree.0
+next_alike p q cpus a b (line ∷ lines) (r ∷ xs) (s ∷ ys) agree same =
+    rw (skips cpus a line lines r xs refl, skips cpus b line lines s ys refl)
+    (next_alike p q cpus a b lines xs ys agree.1 same.1)
+next_alike p q cpus a b lines xs ys agree same = absurd same

@@ -1,7 +1,8 @@
 -- Receipts that are the same but for the numbers of operations give lines the same answers.
-use Rattle.std.proofs.Common.{◌≡◌, ℕ, zero, suc, ◌-◌, Bool, true, false, List, [], ◌∷◌, ◌++◌, length, map, filter, take, cond, eqb, Option, Some, None, slice_get, refl, ap, sym, subst, ◌∙◌, ◌⊎◌, inl, inr, arith}
+use Rattle.std.proofs.Common.{◌≡◌, ℕ, zero, suc, ◌-◌, List, [], ◌∷◌, ◌++◌, length, map, take, eqb, Option, Some, None, slice_get, refl, ap, ◌∙◌, inl, inr, arith}
 use Rattle.std.specs.Prelude.{fold, option_map}
 use Rattle.std.specs.Option.{option_map_or}
+use Rattle.std.proofs.lemmas.Bool.{cases_Bool}
 use Rattle.std.proofs.lemmas.List.{append_assoc}
 use Rattle.std.proofs.lemmas.List.Sums.{fold-append}
 use Rattle.hp_ops.proofs.Receipts.{end_push}
@@ -20,7 +21,6 @@ use Rattle.hp_renumbering.proofs.Alike.{unseen_same}
 use Rattle.hp_schedules.specs.Continuing.{AreSameReceipts, IsSameReceipt, anonymous_record}
 use Rattle.hp_schedules.specs.LineAnswers.{answer_of, answers_in, without}
 use Rattle.hp_schedules.specs.Scripts.{after_line, nothing_known}
-use Rattle.hp_schedules.specs.declared.line_answers.LineAnswer.{LineAnswer}
 use Rattle.hp_schedules.specs.declared.line_answers.LineAnswer.TheVariants.{Reply as Replied, Plan as Carried}
 use Rattle.hp_schedules.specs.declared.scripts.Step.{Step}
 use Rattle.hp_schedules.specs.declared.scripts.Step.TheVariants.{Ask, Own, Carry}
@@ -32,17 +32,15 @@ use Rattle.hp_schedules.proofs.RenumberedLines.{AreSameRests, begin_alike, rest_
 
 pub same_long : (p q : ℕ → ℕ) (xs ys : List Receipt) → AreSameReceipts p q xs ys → length xs ≡ length ys
 same_long p q [] [] same = refl
-same_long p q [] (s ∷ ys) same = absurd same
-same_long p q (r ∷ xs) [] same = absurd same
 same_long p q (r ∷ xs) (s ∷ ys) same = omega (arith, same_long p q xs ys same.1)
+same_long p q xs ys same = absurd same
 
 pub take_same : (p q : ℕ → ℕ) (n : ℕ) (xs ys : List Receipt) → AreSameReceipts p q xs ys
     → AreSameReceipts p q (take n xs) (take n ys)
 take_same p q zero xs ys same = tt
 take_same p q (suc n) [] [] same = tt
-take_same p q (suc n) [] (s ∷ ys) same = absurd same
-take_same p q (suc n) (r ∷ xs) [] same = absurd same
 take_same p q (suc n) (r ∷ xs) (s ∷ ys) same = (same.0, take_same p q n xs ys same.1)
+take_same p q (suc n) xs ys same = absurd same
 
 -- ---- the end of a plan
 
@@ -60,9 +58,8 @@ commit_cause cause reply op other = refl
 cause_same : (p q : ℕ → ℕ) (cause : Option Refusal) (r s : Receipt) → IsSameReceipt p q r s
     → cause_after cause r.event r.reply ≡ cause_after cause s.event s.reply
 cause_same p q cause r s same =
-    unseen_same (λ e. cause_after cause e r.reply) (λ op other drained. refl)
-    (λ op other. migrate_cause cause r.reply op other) (λ op other. commit_cause cause r.reply op other)
-    (λ op other. refl) p q r.event s.event same.event
+    unseen_same (λ e. cause_after cause e r.reply) (λ op other drained. refl) (migrate_cause cause r.reply)
+    (commit_cause cause r.reply) (λ op other. refl) p q r.event s.event same.event
     ∙ ap (cause_after cause s.event) same.reply
 
 drain_end : (cause : Option Refusal) (reply : Reply) (op other drained : ℕ)
@@ -91,10 +88,8 @@ cancel_end cause reply op other = refl
 last_end : (p q : ℕ → ℕ) (cause : Option Refusal) (r s : Receipt) → IsSameReceipt p q r s
     → end_after cause r.event r.reply ≡ end_after cause s.event s.reply
 last_end p q cause r s same =
-    unseen_same (λ e. end_after cause e r.reply)
-    (λ op other drained. drain_end cause r.reply op other drained)
-    (λ op other. migrate_end cause r.reply op other) (λ op other. commit_end cause r.reply op other)
-    (λ op other. cancel_end cause r.reply op other) p q r.event s.event same.event
+    unseen_same (λ e. end_after cause e r.reply) (drain_end cause r.reply) (migrate_end cause r.reply)
+    (commit_end cause r.reply) (cancel_end cause r.reply) p q r.event s.event same.event
     ∙ ap (end_after cause s.event) same.reply
 
 -- the last refusal after the same receipts
@@ -102,12 +97,11 @@ causes_same : (p q : ℕ → ℕ) (a b : Option Refusal) (xs ys : List Receipt) 
     → fold (λ (cause : Option Refusal) (r : Receipt). cause_after cause r.event r.reply) a xs
     ≡ fold (λ (cause : Option Refusal) (r : Receipt). cause_after cause r.event r.reply) b ys
 causes_same p q a b [] [] is same = is
-causes_same p q a b [] (s ∷ ys) is same = absurd same
-causes_same p q a b (r ∷ xs) [] is same = absurd same
 causes_same p q a b (r ∷ xs) (s ∷ ys) is same =
     causes_same p q (cause_after a r.event r.reply) (cause_after b s.event s.reply) xs ys
     (cause_same p q a r s same.0 ∙ ap (λ (cause : Option Refusal). cause_after cause s.event s.reply) is)
     same.1
+causes_same p q a b xs ys is same = absurd same
 
 -- receipts that are the same as others and one more
 record SamePush (p q : ℕ → ℕ) (front : List Receipt) (last : Receipt) (given : List Receipt) : Type 0 where
@@ -138,52 +132,33 @@ same_push p q (r ∷ front) last (s ∷ given) same =
 pub end_alike : (p q : ℕ → ℕ) (xs ys own given : List Receipt) → IsPush own → AreSameReceipts p q own given
     → cause_of xs ≡ cause_of ys → end_of (xs ++ own) ≡ end_of (ys ++ given)
 end_alike p q xs ys own given push same causes =
-    at xs own push.front push.last push.list_is
-    ∙ (ap (λ (cause : Option Refusal). end_after (cause_after cause push.last.event push.last.reply)
-    push.last.event push.last.reply) fronts
-    ∙ (last_end p q (cause_after before push.last.event push.last.reply) push.last both.other both.lasts
-    ∙ (ap (λ (cause : Option Refusal). end_after cause both.other.event both.other.reply)
-    (cause_same p q before push.last both.other both.lasts)
-    ∙ sym (at ys given both.others both.other both.given_is))))
+    rw (at xs own push.front push.last push.list_is, at ys given both.others both.other both.given_is, fronts)
+    (rw (last_end p q (cause_after before push.last.event push.last.reply) push.last both.other both.lasts)
+    (rw (cause_same p q before push.last both.other both.lasts)))
   where
     both : SamePush p q push.front push.last given
-    both =
-        same_push p q push.front push.last given
-        (subst (λ (rs : List Receipt). AreSameReceipts p q rs given) push.list_is same)
+    both = same_push p q push.front push.last given (rw push.list_is at same)
 
     before : Option Refusal
     before = cause_of (ys ++ both.others)
 
-    cause_in : (zs front : List Receipt) → cause_of (zs ++ front)
-        ≡ fold (λ (cause : Option Refusal) (r : Receipt). cause_after cause r.event r.reply)
-        (cause_of zs) front
-    cause_in zs front =
-        fold-append (λ (cause : Option Refusal) (r : Receipt). cause_after cause r.event r.reply) None
-        zs front
-
-    fronts : cause_of (xs ++ push.front) ≡ before
+    fronts : cause_of (xs ++ push.front) ≡ cause_of (ys ++ both.others)
     fronts =
-        cause_in xs push.front
-        ∙ (causes_same p q (cause_of xs) (cause_of ys) push.front both.others causes both.fronts
-        ∙ sym (cause_in ys both.others))
+        simp fold-append
+        (causes_same p q (cause_of xs) (cause_of ys) push.front both.others causes both.fronts)
 
     at : (zs rs front : List Receipt) (last : Receipt) → rs ≡ front ++ last ∷ []
         → end_of (zs ++ rs)
         ≡ end_after (cause_after (cause_of (zs ++ front)) last.event last.reply) last.event last.reply
-    at zs rs front last is =
-        ap end_of (ap (λ (all : List Receipt). zs ++ all) is ∙ sym (append_assoc zs front (last ∷ [])))
-        ∙ end_push (zs ++ front) last
+    at zs rs front last is = rw (is, ← append_assoc zs front (last ∷ [])) (end_push (zs ++ front) last)
 
 pub end_same : (p q : ℕ → ℕ) (own given : List Receipt) → AreSameReceipts p q own given
     → end_of own ≡ end_of given
 end_same p q [] [] same = refl
-end_same p q [] (s ∷ given) same = absurd same
-end_same p q (r ∷ own) [] same = absurd same
-end_same p q (r ∷ own) (s ∷ given) same = by_push (push_cases (r ∷ own))
-  where
-    by_push : (r ∷ own ≡ []) ⊎ IsPush (r ∷ own) → end_of (r ∷ own) ≡ end_of (s ∷ given)
-    by_push (inl none) = absurd cc
-    by_push (inr push) = end_alike p q [] [] (r ∷ own) (s ∷ given) push same refl
+end_same p q (r ∷ own) (s ∷ given) same =
+    elim (push_cases (r ∷ own))
+    [ inl none ↦ absurd cc | inr push ↦ end_alike p q [] [] (r ∷ own) (s ∷ given) push same refl ]
+end_same p q own given same = absurd same
 
 -- ---- answers
 
@@ -191,9 +166,8 @@ first_same : (p q : ℕ → ℕ) (own given : List Receipt) → AreSameReceipts 
     → option_map (λ (r : Receipt). Replied r.reply) (slice_get own 0)
     ≡ option_map (λ (r : Receipt). Replied r.reply) (slice_get given 0)
 first_same p q [] [] same = refl
-first_same p q [] (s ∷ given) same = absurd same
-first_same p q (r ∷ own) [] same = absurd same
 first_same p q (r ∷ own) (s ∷ given) same = ap (λ (reply : Reply). Some (Replied reply)) same.0.reply
+first_same p q own given same = absurd same
 
 answer_same : (p q : ℕ → ℕ) (line : Step) (own given : List Receipt) → AreSameReceipts p q own given
     → answer_of line own ≡ answer_of line given
@@ -208,28 +182,19 @@ line_leaves : (p q : ℕ → ℕ) (cpus : ℕ) (line : Step) (xs ys : List Recei
 line_leaves p q cpus (Carry plan turns) xs ys same =
     rest_alike p q cpus nothing_known nothing_known turns plan [] [] xs ys same
     (begin_alike p q cpus turns plan)
-line_leaves p q cpus (Ask event) [] [] same = tt
-line_leaves p q cpus (Own work) [] [] same = tt
-line_leaves p q cpus line [] (s ∷ ys) same = absurd same
-line_leaves p q cpus line (r ∷ xs) [] same = absurd same
-line_leaves p q cpus (Ask event) (r ∷ xs) (s ∷ ys) same =
-    subst (λ (o : Option (List Receipt)). AreSameRests p q o (after_line cpus nothing_known (Ask event) []
-    (s ∷ ys))) (sym (finished_once cpus nothing_known (Ask event) r xs refl))
-    (subst (AreSameRests p q (Some xs)) (sym (finished_once cpus nothing_known (Ask event) s ys refl)) same.1)
-line_leaves p q cpus (Own work) (r ∷ xs) (s ∷ ys) same =
-    subst (λ (o : Option (List Receipt)). AreSameRests p q o (after_line cpus nothing_known (Own work) []
-    (s ∷ ys))) (sym (finished_once cpus nothing_known (Own work) r xs refl))
-    (subst (AreSameRests p q (Some xs)) (sym (finished_once cpus nothing_known (Own work) s ys refl)) same.1)
+line_leaves p q cpus line [] [] same = tt
+line_leaves p q cpus line (r ∷ xs) (s ∷ ys) same =
+    rw (finished_once cpus nothing_known line r xs refl)
+    (rw (finished_once cpus nothing_known line s ys refl) same.1)
+line_leaves p q cpus line xs ys same = absurd same
 
 -- the receipts before those that are left
 pub without_same : (p q : ℕ → ℕ) (xs ys rest left : List Receipt) → AreSameReceipts p q xs ys
     → AreSameReceipts p q rest left → AreSameReceipts p q (without xs rest) (without ys left)
 without_same p q xs ys rest left same are =
-    subst (λ (n : ℕ). AreSameReceipts p q (without xs rest) (take n ys)) many
-    (take_same p q (length xs - length rest) xs ys same)
-  where
-    many : length xs - length rest ≡ length ys - length left
-    many = omega (arith, same_long p q xs ys same, same_long p q rest left are)
+    let many : length xs - length rest ≡ length ys - length left =
+    omega (arith, same_long p q xs ys same, same_long p q rest left are) in
+    rw (← many) (take_same p q (length xs - length rest) xs ys same)
 
 pub answers_same : (p q : ℕ → ℕ) (cpus : ℕ) (lines : List Step) (xs ys : List Receipt)
     → AreSameReceipts p q xs ys → answers_in cpus lines xs ≡ answers_in cpus lines ys
@@ -245,13 +210,10 @@ answers_same p q cpus (line ∷ lines) xs ys same =
         → option_map_or (λ rest. answer_of line (without xs rest) ∷ answers_in cpus lines rest) o []
         ≡ option_map_or (λ rest. answer_of line (without ys rest) ∷ answers_in cpus lines rest) u []
     by_rests None None are later = refl
-    by_rests None (Some left) are later = absurd are
-    by_rests (Some rest) None are later = absurd are
     by_rests (Some rest) (Some left) are later =
-        ap (λ (answer : Option LineAnswer). answer ∷ answers_in cpus lines rest)
-        (answer_same p q line (without xs rest) (without ys left) (without_same p q xs ys rest left same are))
-        ∙ ap (λ (all : List (Option LineAnswer)). answer_of line (without ys left) ∷ all)
-        (later rest left are)
+        rw (answer_same p q line (without xs rest) (without ys left)
+        (without_same p q xs ys rest left same are)) (rw (later rest left are))
+    by_rests o u are later = absurd are
 
 -- ---- records
 
@@ -264,15 +226,11 @@ pub receipts_same : (cpu : ℕ) (more others : List Record)
     → map anonymous_record more ≡ map anonymous_record others
     → AreSameReceipts nameless nameless (receipts_of cpu more) (receipts_of cpu others)
 receipts_same cpu [] [] same = tt
-receipts_same cpu [] (s ∷ others) same = absurd cc
-receipts_same cpu (r ∷ more) [] same = absurd cc
 receipts_same cpu (r ∷ more) (s ∷ others) same =
-    subst (λ (b : Bool). AreSameReceipts nameless nameless
-    (map receipt_of (cond (eqb r.cpu cpu) (r ∷ filter (λ (x : Record). eqb x.cpu cpu) more)
-    (filter (λ (x : Record). eqb x.cpu cpu) more)))
-    (map receipt_of (cond b (s ∷ filter (λ (x : Record). eqb x.cpu cpu) others)
-    (filter (λ (x : Record). eqb x.cpu cpu) others)))) (ap (λ (x : Record). eqb x.cpu cpu) first)
-    (by_owner (eqb r.cpu cpu) (receipts_same cpu more others rest))
+    rw (← ap (λ (x : Record). eqb x.cpu cpu) first) (elim (cases_Bool (eqb r.cpu cpu)) [
+      | inl e ↦ rw e (one, receipts_same cpu more others rest)
+      | inr e ↦ rw e (receipts_same cpu more others rest)
+    ])
   where
     first : anonymous_record r ≡ anonymous_record s
     first = cc
@@ -290,13 +248,4 @@ receipts_same cpu (r ∷ more) (s ∷ others) same =
       reply = reply;
       told = ap (renumbered_reply nameless) reply;
     }
-
-    by_owner : (own : Bool)
-        → AreSameReceipts nameless nameless (receipts_of cpu more) (receipts_of cpu others)
-        → AreSameReceipts nameless nameless
-        (map receipt_of (cond own (r ∷ filter (λ (x : Record). eqb x.cpu cpu) more)
-        (filter (λ (x : Record). eqb x.cpu cpu) more)))
-        (map receipt_of (cond own (s ∷ filter (λ (x : Record). eqb x.cpu cpu) others)
-        (filter (λ (x : Record). eqb x.cpu cpu) others)))
-    by_owner true later = (one, later)
-    by_owner false later = later
+receipts_same cpu more others same = absurd cc

@@ -4,7 +4,7 @@ use Rattle.std.specs.Prelude.{sum_by}
 use Rattle.std.proofs.lemmas.Bool.{cases_lt, eq-eqb, ne_eqb}
 use Rattle.std.proofs.lemmas.List.{get_or_append_left, get_or_past, get_or_push, length_push, take_all, length-set}
 use Rattle.std.proofs.lemmas.List.Sums.{sum_by-cons, sum_by_more, sum_by_more_le, sum_by_push, sum_by-set}
-use Rattle.std.proofs.lemmas.Option.{get_or_from_slice_get, same_Some, slice_get_read, slice_get_within}
+use Rattle.std.proofs.lemmas.Option.{get_or_from_slice_get, slice_get_read, slice_get_within}
 use Rattle.hp_laws.proofs.Lists.{get_push_cases}
 use Rattle.hp_schedules.specs.Notes.{TallyValue}
 use Rattle.hp_schedules.specs.Shares.{AddsAt, AddsCounts, AddsShares, AreAtEnds, HasRoomFor, HasRoomForShares, amount_of, count_for}
@@ -84,9 +84,7 @@ counts_below shares (suc n) k less =
           (omega (arith, below, counts_long shares n))
           ∙ counts_below shares n k below
       | inr past ↦ (let same : k ≡ n = omega (arith, less, past) in
-          ap (λ (i : ℕ). get_or (counts_in shares n ++ amount_of shares n ∷ []) i 0) same
-          ∙ (get_or_push (counts_in shares n) (amount_of shares n) 0 n (counts_long shares n)
-          ∙ ap (amount_of shares) (sym same)))
+          rw (same, get_or_push (counts_in shares n) (amount_of shares n) 0 n (counts_long shares n)))
     ]
 
 pub counts_tell : (shares : List Share) (many : ℕ) → AreAtEnds many shares → (k : ℕ)
@@ -98,6 +96,20 @@ counts_tell shares many at k =
           amount_past shares many k at past
           ∙ sym (get_or_past (counts_in shares many) k 0 (omega (arith, past, counts_long shares many)))
     ]
+
+-- the shares up to one have its count more
+shared_more : (shares : List Share) (at : ℕ) (s : Share) → slice_get shares at ≡ Some s
+    → shared (take (at + 1) shares) ≡ shared (take at shares) + s.count
+shared_more shares at s here =
+    rw (get_or_from_slice_get shares at s s here) at
+    (sum_by_more (λ (t : Share). t.count) shares at s (slice_get_within shares at s here))
+
+-- and are no more than all of them
+shared_more_le : (shares : List Share) (at : ℕ) (s : Share) → slice_get shares at ≡ Some s
+    → shared (take at shares) + s.count ≤ shared shares
+shared_more_le shares at s here =
+    rw (get_or_from_slice_get shares at s s here) at
+    (sum_by_more_le (λ (t : Share). t.count) shares at s (slice_get_within shares at s here))
 
 -- ---- what is added to an end
 
@@ -126,17 +138,11 @@ adds_none ends shares = record {
   adds = record {
     as_many = refl;
     more =
-        λ k e f h i. let same : e ≡ f = same_Some e f (sym h ∙ i) in (
-          ap (λ (y : Ending). y.outcome) (sym same),
-          ap (λ (y : Ending). y.first.items) (sym same),
-          no_more e f same,
-        );
+        λ k e f h i. let same : f ≡ e = cc in
+        let none : e.count ≡ e.count + 0 = omega arith in (rw same, rw same, rw same none);
   };
   total = omega arith;
 }
-  where
-    no_more : (e f : Ending) → e ≡ f → f.count ≡ e.count + 0
-    no_more e f same = omega (arith, ap (λ (y : Ending). y.count) same)
 
 -- the end of the next share is there, and there is room for it
 pub next_end : (old new : List Ending) (shares : List Share) (at : ℕ) (s : Share)
@@ -150,17 +156,7 @@ pub next_room : (old mid : TallyValue) (shares : List Share) (at : ℕ) (s : Sha
     → slice_get shares at ≡ Some s → mid.limit ≡ old.limit
     → HasRoomForShares old shares → AddsBelow old.ends shares at mid.ends → HasRoomFor mid (s.count ∷ [])
 next_room old mid shares at s here limit room so_far =
-    let within = slice_get_within shares at s here in
-    let read = get_or_from_slice_get shares at s s here in
-    omega (
-      arith,
-      room,
-      limit,
-      so_far.total,
-      sum_by_more_le (λ (t : Share). t.count) shares at s within,
-      ap (λ (t : Share). t.count) read,
-      sum_by-cons (λ (n : ℕ). n) s.count [],
-    )
+    omega (arith, so_far.total, shared_more_le shares at s here, sum_by-cons (λ (n : ℕ). n) s.count [])
 
 -- its end counts so many more
 pub adds_more : (old mid new : List Ending) (shares : List Share) (at : ℕ) (s : Share)
@@ -176,27 +172,19 @@ adds_more old mid new shares at s here so_far adds =
           omega (
             arith,
             so_far.total,
-            sum_by_more (λ (t : Share). t.count) shares at s within,
-            ap (λ (t : Share). t.count) read,
+            shared_more shares at s here,
             sum_by-set (λ (y : Ending). y.count) mid s.end adds.more adds.entry
                 (slice_get_within mid s.end adds.entry adds.here),
-            ap (λ (y : Ending). y.count) entry_read,
+            ap (λ (y : Ending). y.count)
+                (get_or_from_slice_get mid s.end adds.entry adds.entry adds.here),
             adds.count_is,
           );
     })
   where
-    within : at < length shares
-    within = slice_get_within shares at s here
-
-    read : get_or shares at s ≡ s
-    read = get_or_from_slice_get shares at s s here
-
-    entry_read : get_or mid s.end adds.entry ≡ adds.entry
-    entry_read = get_or_from_slice_get mid s.end adds.entry adds.entry adds.here
-
     step : (k : ℕ) → amount_of (take (at + 1) shares) k ≡ amount_of (take at shares) k + count_for k s
-    step k = sum_by_more (count_for k) shares at s within ∙ ap (λ (t : Share). amount_of (take at shares) k
-        + count_for k t) read
+    step k =
+        rw (get_or_from_slice_get shares at s s here) at
+        (sum_by_more (count_for k) shares at s (slice_get_within shares at s here))
 
     more : (k : ℕ) (e f : Ending) → slice_get old k ≡ Some e → slice_get (set mid s.end adds.more) k ≡ Some f
         → (f.outcome ≡ e.outcome) × (f.first.items ≡ e.first.items)
@@ -212,17 +200,10 @@ adds_more old mid new shares at s here so_far adds =
             → (f.outcome ≡ e.outcome) × (f.first.items ≡ e.first.items)
             × (f.count ≡ e.count + amount_of (take (at + 1) shares) k)
         own same is =
-            let m = so_far.adds.more k e adds.entry h (ap (slice_get mid) same ∙ adds.here) in (
-              ap (λ (y : Ending). y.outcome) (sym is) ∙ (adds.outcome_is ∙ m.0),
-              ap (λ (y : Ending). y.first.items) (sym is) ∙ (adds.first ∙ m.1),
-              omega (
-                arith,
-                ap (λ (y : Ending). y.count) is,
-                adds.count_is,
-                m.2,
-                step k,
-                own_share s k (sym same),
-              ),
+            let m = so_far.adds.more k e adds.entry h (rw same adds.here) in (
+              rw (← is, adds.outcome_is) m.0,
+              rw (← is, adds.first) m.1,
+              rw (← is, adds.count_is, step k, own_share s k (sym same)) (omega (arith, m.2)),
             )
 
 -- they are the counts that they tell
@@ -241,34 +222,16 @@ pub left_more : (shares : List Share) (room left less at : ℕ) (s : Share) → 
     → left + shared (take at shares) ≡ room → s.count ≤ left → less ≡ left - s.count
     → less + shared (take (at + 1) shares) ≡ room
 left_more shares room left less at s here so_far fits is =
-    let within = slice_get_within shares at s here in
-    let read = get_or_from_slice_get shares at s s here in
-    omega (
-      arith,
-      so_far,
-      fits,
-      is,
-      sum_by_more (λ (t : Share). t.count) shares at s within,
-      ap (λ (t : Share). t.count) read,
-    )
+    omega (arith, shared_more shares at s here)
 
 -- one that is too great is one of all
 pub none_left : (shares : List Share) (room left at : ℕ) (s : Share) → slice_get shares at ≡ Some s
     → left + shared (take at shares) ≡ room → (s.count ≤ left → ⊥)
     → shared shares ≤ room → ⊥
 none_left shares room left at s here so_far over fits =
-    let within = slice_get_within shares at s here in
-    let read = get_or_from_slice_get shares at s s here in
-    over (omega (
-      arith,
-      so_far,
-      fits,
-      sum_by_more_le (λ (t : Share). t.count) shares at s within,
-      ap (λ (t : Share). t.count) read,
-    ))
+    over (omega (arith, shared_more_le shares at s here))
 
 -- and all of them leave some
 pub all_left : (shares : List Share) (room left at : ℕ) → length shares ≤ at
     → left + shared (take at shares) ≡ room → shared shares ≤ room
-all_left shares room left at past so_far =
-    omega (arith, so_far, ap shared (take_all at shares past))
+all_left shares room left at past so_far = omega (arith, rw (take_all at shares past) at so_far)

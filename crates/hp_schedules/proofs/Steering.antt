@@ -1,16 +1,14 @@
 -- Positions with equal numbers: their scripts call the same after the same further receipts.
-use Rattle.std.proofs.Common.{◌≡◌, ℕ, zero, suc, ◌+◌, ◌<◌, Bool, true, false, cond, List, [], ◌∷◌, ◌++◌, drop, filter, get_or, length, map, Some, slice_get, refl, ap, sym, subst, ◌∙◌, arith}
-use Rattle.std.specs.Prelude.{flat_map, fold, option_map}
+use Rattle.std.proofs.Common.{◌≡◌, ℕ, zero, suc, ◌+◌, ◌<◌, true, false, cond, List, [], ◌∷◌, ◌++◌, drop, filter, length, map, Some, slice_get, refl, ap, sym, ◌∙◌, arith}
+use Rattle.std.specs.Prelude.{fold, option_map}
 use Rattle.std.proofs.lemmas.Bool.{and_parts}
-use Rattle.std.proofs.lemmas.List.{length-append}
 use Rattle.std.proofs.lemmas.List.Sums.{fold-append}
 use Rattle.std.proofs.lemmas.Option.{slice_get_within}
 use Rattle.hp_laws.proofs.Lists.{get_some}
 use Rattle.hp_ops.specs.Stages.{event_in, key_of, stage_number, stage_op}
 use Rattle.hp_ops.specs.declared.stages.Driver.{Driver}
-use Rattle.hp_ops.specs.declared.stages.DriverKey.{DriverKey}
 use Rattle.hp_ops.specs.declared.stages.Stage.{Stage}
-use Rattle.hp_ops.specs.declared.stages.Stage.TheVariants.{Begin as Begins, DrainFor as DrainsFor, Migrate as Migrates, Commit as Commits, Cancel as Cancels, Ended}
+use Rattle.hp_ops.specs.declared.stages.Stage.TheVariants.{Begin as Begins, DrainFor as DrainsFor, Migrate as Migrates, Commit as Commits, Cancel as Cancels}
 use Rattle.hp_ops.proofs.Keys.{same_event}
 use Rattle.hp_units.specs.History.{net_of}
 use Rattle.hp_units.specs.Marks.{is_opening, mark_of}
@@ -22,7 +20,7 @@ use Rattle.hp_renumbering.specs.Renumbered.{renumbered_event}
 use Rattle.hp_renumbering.proofs.Alike.{unseen_same}
 use Rattle.hp_schedules.specs.Alike.{AreMergeable, is_mergeable, is_mergeable_line}
 use Rattle.hp_schedules.specs.Continuing.{AreJoinedBy, AreSameBy, AreSameReceipts}
-use Rattle.hp_schedules.specs.Cursors.{IsInFirst, IsSteered, frames_ahead, frames_named, steering_of}
+use Rattle.hp_schedules.specs.Cursors.{IsInFirst, IsSteered, frames_ahead, steering_of}
 use Rattle.hp_schedules.specs.Schedules.{Setting}
 use Rattle.hp_schedules.specs.Scripts.{Known, frame_in, frames_of, known_of, later_operation, next_in, next_of, own_operation, step_work_of, takes_frame}
 use Rattle.hp_schedules.specs.Starts.{same_starts}
@@ -51,19 +49,11 @@ renumbered_driver f d =
 stage_event : (f : ℕ → ℕ) (plan : List Item) (s : Stage)
     → option_map (renumbered_event f) (event_in plan s) ≡ event_in plan (renumbered_stage f s)
 stage_event f plan Begins = refl
-stage_event f plan (DrainsFor op cpu) = refl
-stage_event f plan (Migrates op) = refl
-stage_event f plan (Commits op) = refl
-stage_event f plan (Cancels op) = refl
-stage_event f plan (Ended end) = refl
+stage_event f plan s = refl
 
 stage_kept : (f : ℕ → ℕ) (s : Stage) → stage_number (renumbered_stage f s) ≡ stage_number s
 stage_kept f Begins = refl
-stage_kept f (DrainsFor op cpu) = refl
-stage_kept f (Migrates op) = refl
-stage_kept f (Commits op) = refl
-stage_kept f (Cancels op) = refl
-stage_kept f (Ended end) = refl
+stage_kept f s = refl
 
 -- the operation by the two numbers of a stage
 abbrev op_at : (number op : ℕ) → ℕ
@@ -76,14 +66,10 @@ op_at (suc (suc (suc (suc (suc cpu))))) op = op
 
 stage_named : (f : ℕ → ℕ) (s : Stage)
     → stage_op (renumbered_stage f s) ≡ op_at (stage_number s) (f (stage_op s))
-stage_named f Begins = refl
-stage_named f (Migrates op) = refl
-stage_named f (Commits op) = refl
-stage_named f (Cancels op) = refl
-stage_named f (Ended end) = refl
 stage_named f (DrainsFor op cpu) =
     let from_five : suc (suc (suc (suc (suc cpu)))) ≡ 5 + cpu = omega arith in
     ap (λ (n : ℕ). op_at n (f op)) from_five
+stage_named f s = refl
 
 -- drivers with equal numbers ask for the same, as `p` and `q` number the operations
 pub record AreSameDrivers (p q : ℕ → ℕ) (d e : Driver) : Type 0 where
@@ -95,28 +81,11 @@ pub drivers_ask : (p q : ℕ → ℕ) (d e : Driver) (plan : List Item) → AreS
     → option_map (renumbered_event p) (event_in plan d.stage)
     ≡ option_map (renumbered_event q) (event_in plan e.stage)
 drivers_ask p q d e plan same =
-    stage_event p plan d.stage
-    ∙ (same_event (renumbered_driver p d) (renumbered_driver q e) plan keys
-    ∙ sym (stage_event q plan e.stage))
-  where
-    made : (left stage op : ℕ) → DriverKey
-    made left stage op = record { left = left; stage = stage; op = op }
-
-    numbers : stage_number (renumbered_stage p d.stage) ≡ stage_number (renumbered_stage q e.stage)
-    numbers = stage_kept p d.stage ∙ (same.stage ∙ sym (stage_kept q e.stage))
-
-    ops : stage_op (renumbered_stage p d.stage) ≡ stage_op (renumbered_stage q e.stage)
-    ops =
-        stage_named p d.stage
-        ∙ (ap (λ (n : ℕ). op_at n (p (stage_op d.stage))) same.stage
-        ∙ (ap (op_at (stage_number e.stage)) same.op ∙ sym (stage_named q e.stage)))
-
-    keys : key_of (renumbered_driver p d) ≡ key_of (renumbered_driver q e)
-    keys =
-        ap (λ (n : ℕ).
-        made n (stage_number (renumbered_stage p d.stage)) (stage_op (renumbered_stage p d.stage))) same.left
-        ∙ (ap (λ (n : ℕ). made e.left n (stage_op (renumbered_stage p d.stage))) numbers
-        ∙ ap (made e.left (stage_number (renumbered_stage q e.stage))) ops)
+    let keys : key_of (renumbered_driver p d) ≡ key_of (renumbered_driver q e) =
+    rw (same.left, stage_kept p d.stage, stage_kept q e.stage)
+    (rw (stage_named p d.stage, stage_named q e.stage, same.stage, same.op)) in
+    rw (stage_event p plan d.stage, stage_event q plan e.stage)
+    (same_event (renumbered_driver p d) (renumbered_driver q e) plan keys)
 
 -- ---- lines
 
@@ -129,23 +98,13 @@ begun_alike : (p q : ℕ → ℕ) (cpus : ℕ) (a b : Known) (lines : List Step)
     ≡ option_map (renumbered_event q) (next_in cpus b lines (given ++ ys))
 begun_alike p q cpus a b [] own given xs ys d e same first second agree are = refl
 begun_alike p q cpus a b (Ask event ∷ lines) own given xs ys d e same first second agree are =
-    ap (λ (rs : List Receipt).
-    option_map (renumbered_event p) (next_in cpus a (Ask event ∷ lines) (rs ++ xs))) first.0
-    ∙ (next_alike p q cpus a b (Ask event ∷ lines) xs ys agree are
-    ∙ sym (ap (λ (rs : List Receipt).
-    option_map (renumbered_event q) (next_in cpus b (Ask event ∷ lines) (rs ++ ys))) second.0))
+    rw (first.0, second.0) (next_alike p q cpus a b (Ask event ∷ lines) xs ys agree are)
 begun_alike p q cpus a b (Own work ∷ lines) own given xs ys d e same first second agree are =
-    ap (λ (rs : List Receipt). option_map (renumbered_event p) (next_in cpus a (Own work ∷ lines) (rs ++ xs)))
-    first.0
-    ∙ (next_alike p q cpus a b (Own work ∷ lines) xs ys agree are
-    ∙ sym (ap (λ (rs : List Receipt).
-    option_map (renumbered_event q) (next_in cpus b (Own work ∷ lines) (rs ++ ys))) second.0))
+    rw (first.0, second.0) (next_alike p q cpus a b (Own work ∷ lines) xs ys agree are)
 begun_alike p q cpus a b (Carry plan turns ∷ lines) own given xs ys d e same first second agree are =
     carried_alike p q cpus a b turns plan lines own given xs ys are (first.1 a xs) (second.1 b ys)
     (record {
-      next =
-          sym (ap (option_map (renumbered_event p)) (first.0.next plan))
-          ∙ (drivers_ask p q d e plan same ∙ ap (option_map (renumbered_event q)) (second.0.next plan));
+      next = rw (← first.0.next plan, ← second.0.next plan) (drivers_ask p q d e plan same);
       left = sym first.0.left ∙ (same.left ∙ second.0.left);
     })
     (λ rest left. next_alike p q cpus a b lines rest left agree.1)
@@ -159,21 +118,14 @@ operation_alike p q m n [] [] op same = op
 operation_alike p q m n [] (s ∷ ys) op same = absurd same
 operation_alike p q m n (r ∷ xs) [] op same = absurd same
 operation_alike p q m n (r ∷ xs) (s ∷ ys) op same =
-    operation_alike p q (later_operation m r) (later_operation n s) xs ys next same.1
+    operation_alike p q (later_operation m r) (later_operation n s) xs ys
+    (rw (← opens) (elim (is_opening (mark_of r.event)) as (λ b. p (cond b r.serial m) ≡ q (cond b s.serial n))
+    [ true ↦ same.0.number | false ↦ op ])) same.1
   where
     opens : is_opening (mark_of r.event) ≡ is_opening (mark_of s.event)
     opens =
         unseen_same (λ e. is_opening (mark_of e)) (λ op other drained. refl) (λ op other. refl)
         (λ op other. refl) (λ op other. refl) p q r.event s.event same.0.event
-
-    by_mark : (b : Bool) → p (cond b r.serial m) ≡ q (cond b s.serial n)
-    by_mark true = same.0.number
-    by_mark false = op
-
-    next : p (later_operation m r) ≡ q (later_operation n s)
-    next =
-        by_mark (is_opening (mark_of r.event))
-        ∙ ap (λ (b : Bool). q (cond b s.serial n)) opens
 
 -- the frames that it took with them
 frames_alike : (p q : ℕ → ℕ) (xs ys : List Receipt) → AreSameReceipts p q xs ys → frames_of xs ≡ frames_of ys
@@ -181,27 +133,19 @@ frames_alike p q [] [] same = refl
 frames_alike p q [] (s ∷ ys) same = absurd same
 frames_alike p q (r ∷ xs) [] same = absurd same
 frames_alike p q (r ∷ xs) (s ∷ ys) same =
-    by_event (takes_frame r.event) (frames_alike p q xs ys same.1)
-    ∙ ap (λ (b : Bool). map (λ (x : Receipt). frame_in x.reply)
-    (cond b (s ∷ filter (λ (x : Receipt). takes_frame x.event) ys)
-    (filter (λ (x : Receipt). takes_frame x.event) ys))) takes
+    rw (← takes) (elim (takes_frame r.event) as (λ b.
+    map (λ (x : Receipt). frame_in x.reply) (cond b (r ∷ filter (λ (x : Receipt). takes_frame x.event) xs)
+    (filter (λ (x : Receipt). takes_frame x.event) xs))
+    ≡ map (λ (x : Receipt). frame_in x.reply) (cond b (s ∷ filter (λ (x : Receipt). takes_frame x.event) ys)
+    (filter (λ (x : Receipt). takes_frame x.event) ys))) [
+      | true ↦ rw (same.0.reply, frames_alike p q xs ys same.1)
+      | false ↦ frames_alike p q xs ys same.1
+    ])
   where
     takes : takes_frame r.event ≡ takes_frame s.event
     takes =
         unseen_same takes_frame (λ op other drained. refl) (λ op other. refl) (λ op other. refl)
         (λ op other. refl) p q r.event s.event same.0.event
-
-    by_event : (b : Bool) → frames_of xs ≡ frames_of ys
-        → map (λ (x : Receipt). frame_in x.reply)
-        (cond b (r ∷ filter (λ (x : Receipt). takes_frame x.event) xs)
-        (filter (λ (x : Receipt). takes_frame x.event) xs))
-        ≡ map (λ (x : Receipt). frame_in x.reply)
-        (cond b (s ∷ filter (λ (x : Receipt). takes_frame x.event) ys)
-        (filter (λ (x : Receipt). takes_frame x.event) ys))
-    by_event true rest =
-        ap (λ (frame : ℕ). frame ∷ frames_of xs) (ap frame_in same.0.reply)
-        ∙ ap (λ (frames : List ℕ). frame_in s.reply ∷ frames) rest
-    by_event false rest = rest
 
 -- ---- lines that work on them
 
@@ -227,9 +171,7 @@ renumbered_known f known = record { op = f known.op; begun = known.begun; frames
 step_renumbered : (f : ℕ → ℕ) (op : ℕ) (w : StepWork)
     → renumbered_event f (step_work_of op w) ≡ step_work_of (f op) w
 step_renumbered f op (work.DrainFor cpu) = refl
-step_renumbered f op work.Migrate = refl
-step_renumbered f op work.Commit = refl
-step_renumbered f op work.Cancel = refl
+step_renumbered f op w = refl
 
 line_agrees : (p q : ℕ → ℕ) (a b : Known) (line : Step) → is_mergeable_line line ≡ true → IsNamedBy p q line
     → Agrees (renumbered_known p a) (renumbered_known q b) line → AgreesBy p q a b line
@@ -251,19 +193,6 @@ lines_agree p q a b (line ∷ lines) merges named agree = (
 
 -- ---- scripts
 
--- the drivers of cursors with equal numbers
-pub drivers_of : (p q : ℕ → ℕ) (d e : Driver) (numbers others : List ℕ) → numbers ≡ others
-    → get_or numbers 2 0 ≡ d.left → get_or numbers 3 0 ≡ stage_number d.stage
-    → get_or numbers 4 0 ≡ p (stage_op d.stage)
-    → get_or others 2 0 ≡ e.left → get_or others 3 0 ≡ stage_number e.stage
-    → get_or others 4 0 ≡ q (stage_op e.stage)
-    → AreSameDrivers p q d e
-drivers_of p q d e numbers others same left stage op other_left other_stage other_op = record {
-  left = sym left ∙ (ap (λ (ns : List ℕ). get_or ns 2 0) same ∙ other_left);
-  stage = sym stage ∙ (ap (λ (ns : List ℕ). get_or ns 3 0) same ∙ other_stage);
-  op = sym op ∙ (ap (λ (ns : List ℕ). get_or ns 4 0) same ∙ other_op);
-}
-
 pub steered_alike : (p q : ℕ → ℕ) (g : Setting) (cpu : ℕ) (lines : List Step) (h k : List Record)
     (part : List ℕ) (xs ys : List Receipt)
     → slice_get g.scripts cpu ≡ Some lines → is_mergeable lines ≡ true → AreNamedBy p q lines
@@ -276,17 +205,13 @@ steered_alike p q g cpu lines h k part xs ys here merges named first second are 
     let same =
     same_starts (steering_of p a.0) (frames_ahead a.0 lines (receipts_of cpu h)) (steering_of q b.0)
     (frames_ahead b.0 lines (receipts_of cpu k)) refl (sym a.2 ∙ b.2) in
-    let line : a.0.line ≡ b.0.line = ap (λ (numbers : List ℕ). get_or numbers 0 0) same.0 in
-    let op_is : p a.0.op ≡ q b.0.op = ap (λ (numbers : List ℕ). get_or numbers 1 0) same.0 in
+    let line : a.0.line ≡ b.0.line = cc in
+    let op_is : p a.0.op ≡ q b.0.op = cc in
     let op : p (own_operation (receipts_of cpu h ++ xs)) ≡ q (own_operation (receipts_of cpu k ++ ys)) =
-    ap p (fold-append later_operation 0 (receipts_of cpu h) xs)
-    ∙ (operation_alike p q (own_operation (receipts_of cpu h)) (own_operation (receipts_of cpu k)) xs ys
-    (ap p (sym a.1.begun) ∙ (op_is ∙ ap q b.1.begun)) are
-    ∙ sym (ap q (fold-append later_operation 0 (receipts_of cpu k) ys))) in
-    let frames : flat_map (frames_named (frames_of (receipts_of cpu h))) (drop b.0.line lines)
-    ≡ flat_map (frames_named (frames_of (receipts_of cpu k))) (drop b.0.line lines) =
-    ap (λ (n : ℕ). flat_map (frames_named (frames_of (receipts_of cpu h))) (drop n lines)) (sym line)
-    ∙ same.1 in
+    rw (fold-append, fold-append)
+    (operation_alike p q (own_operation (receipts_of cpu h)) (own_operation (receipts_of cpu k)) xs ys
+    (rw (← a.1.begun, ← b.1.begun) op_is) are) in
+    let frames = rw line at same.1 in
     let known = known_of (receipts_of cpu h ++ xs) in
     let other = known_of (receipts_of cpu k ++ ys) in
     let agree =
@@ -295,19 +220,10 @@ steered_alike p q g cpu lines h k part xs ys here merges named first second are 
     (all_named (renumbered_known p known) (renumbered_known q other) (frames_of (receipts_of cpu h))
     (frames_of (receipts_of cpu k)) (frames_of xs) (drop b.0.line lines)
     (drop_mergeable b.0.line lines merges) op (frames_more (receipts_of cpu h) xs)
-    (frames_more (receipts_of cpu k) ys
-    ∙ ap (λ (more : List ℕ). frames_of (receipts_of cpu k) ++ more) (sym (frames_alike p q xs ys are)))
-    frames) in
-    ap (option_map (renumbered_event p)) (a.1.ahead known xs)
-    ∙ (ap (λ (n : ℕ).
-    option_map (renumbered_event p) (next_in g.layout.cpus known (drop n lines) (a.1.own ++ xs))) line
-    ∙ (begun_alike p q g.layout.cpus known other (drop b.0.line lines) a.1.own b.1.own xs ys a.0.driver
-    b.0.driver
-    (drivers_of p q a.0.driver b.0.driver (steering_of p a.0) (steering_of q b.0) same.0 refl refl refl refl
-    refl refl)
-    (subst (λ (n : ℕ). IsInFirst g.layout.cpus (drop n lines) a.1.own a.0.driver) line a.1.here)
-    b.1.here agree are
-    ∙ sym (ap (option_map (renumbered_event q)) (b.1.ahead other ys))))
+    (rw (frames_alike p q xs ys are) (frames_more (receipts_of cpu k) ys)) frames) in
+    rw (a.1.ahead known xs, b.1.ahead other ys, line)
+    (begun_alike p q g.layout.cpus known other (drop b.0.line lines) a.1.own b.1.own xs ys a.0.driver
+    b.0.driver (record { left = cc; stage = cc; op = cc }) (rw line at a.1.here) b.1.here agree are)
 
 -- numbers of one processor that begin a list are the same, and so is what follows them
 pub parts_apart : (f h : ℕ → ℕ) (g : Setting) (cpu : ℕ) (one other : List Record) (p q xs ys : List ℕ)
@@ -317,20 +233,10 @@ parts_apart f h g cpu one other p q xs ys within first second is =
     let script = get_some g.scripts cpu within in
     let a = first script.0 script.1 in
     let b = second script.0 script.1 in
-    let line : a.0.line ≡ b.0.line =
-    ap (λ (numbers : List ℕ). get_or numbers 0 0)
-    (sym (ap (λ (zs : List ℕ). zs ++ xs) a.2) ∙ (is ∙ ap (λ (zs : List ℕ). zs ++ ys) b.2)) in
-    same_starts p xs q ys
-    (ap length a.2
-    ∙ (length-append (steering_of f a.0) (frames_ahead a.0 script.0 (receipts_of cpu one))
-    ∙ (ap (λ (n : ℕ). 5 + n)
-    (ap (λ (n : ℕ).
-    length (flat_map (frames_named (frames_of (receipts_of cpu one))) (drop n script.0))) line
-    ∙ all_named_long (frames_of (receipts_of cpu one)) (frames_of (receipts_of cpu other))
-    (drop b.0.line script.0))
-    ∙ sym (ap length b.2
-    ∙ length-append (steering_of h b.0) (frames_ahead b.0 script.0 (receipts_of cpu other))))))
-    is
+    let both = rw (a.2, b.2) at is in
+    let line : a.0.line ≡ b.0.line = cc in
+    let long = all_named_long (frames_of (receipts_of cpu one)) (frames_of (receipts_of cpu other)) in
+    same_starts p xs q ys (rw (a.2, b.2, line, long (drop b.0.line script.0))) is
 
 -- beginnings after which equal numbers steer every processor, and whose nets join, are the same
 pub steered_same : (p q : ℕ → ℕ) (g : Setting) (h k : List Record) → AreMergeable g.scripts

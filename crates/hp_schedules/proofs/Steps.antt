@@ -1,25 +1,18 @@
 -- A processor's receipts with one record more.
-use Rattle.std.proofs.Common.{◌≡◌, ℕ, Bool, true, false, cond, List, [], ◌∷◌, ◌++◌, map, filter, eqb, refl, ap, ◌∙◌}
+use Rattle.std.proofs.Common.{◌≡◌, ℕ, Bool, true, false, cond, List, [], ◌∷◌, ◌++◌, map, eqb, refl}
 use Rattle.std.proofs.lemmas.Bool.{eq-eqb}
 use Rattle.std.proofs.lemmas.List.{map-append}
 use Rattle.std.proofs.lemmas.List.Elements.{filter-append}
 use Rattle.hp_units.specs.Receipts.{receipt_of, receipts_of}
 use Rattle.hp_units.specs.declared.replies.Record.{Record}
-use Rattle.hp_units.specs.declared.replies.Receipt.{Receipt}
 
 -- the receipts with one record more, by whether it is the processor's
 pub receipts_push : (cpu : ℕ) (h : List Record) (r : Record) (own : Bool) → eqb r.cpu cpu ≡ own
     → receipts_of cpu (h ++ r ∷ []) ≡ receipts_of cpu h ++ cond own (receipt_of r ∷ []) []
 receipts_push cpu h r own is =
-    ap (map receipt_of) (filter-append (λ (q : Record). eqb q.cpu cpu) h (r ∷ []))
-    ∙ (map-append receipt_of (filter (λ (q : Record). eqb q.cpu cpu) h)
-    (filter (λ (q : Record). eqb q.cpu cpu) (r ∷ [])) ∙ ap (λ (xs : List Receipt). receipts_of cpu h ++ xs)
-    (one own is))
-  where
-    one : (b : Bool) → eqb r.cpu cpu ≡ b
-        → map receipt_of (filter (λ (q : Record). eqb q.cpu cpu) (r ∷ [])) ≡ cond b (receipt_of r ∷ []) []
-    one true e = rw e refl
-    one false e = rw e refl
+    rw (filter-append (λ (q : Record). eqb q.cpu cpu) h (r ∷ []), map-append, is) (elim own as (λ b.
+    receipts_of cpu h ++ map receipt_of (cond b (r ∷ []) [])
+    ≡ receipts_of cpu h ++ cond b (receipt_of r ∷ []) []) [ true ↦ refl | false ↦ refl ])
 
 -- its own record's
 pub receipts_own : (h : List Record) (r : Record)

@@ -31,6 +31,12 @@ amounts_add_up k end a b = cond_adds (nat_eq end k) a b
 
 -- ---- one share is added to the sums
 
+-- the shares stay of the first ends where one is set to a share of those
+at_ends_set : (shares : List Share) (k : ℕ) (s : Share) (many : ℕ) → s.end < many → AreAtEnds many shares
+    → AreAtEnds many (set shares k s)
+at_ends_set shares k s many own at i u h =
+    elim (get_set_cases shares k s i u h) [ inl x ↦ rw (← x.1) own | inr x ↦ at i u x.1 ]
+
 -- its end has a sum
 pub summed_with : (old new : List Share) (start end at place : ℕ) (s t : Share)
     → slice_get old at ≡ Some s → slice_get old place ≡ Some t → t.end ≡ s.end
@@ -44,7 +50,7 @@ summed_with old new start end at place s t here there own from below to is =
       not_less = omega arith;
       within = omega arith;
       same = same;
-      at_ends = at_ends;
+      at_ends = λ many at. at_ends_set old place more many (at place t there) at;
     })
   where
     more : Share
@@ -52,8 +58,7 @@ summed_with old new start end at place s t here there own from below to is =
 
     gives : (f : Share → ℕ) → AddsUp f → f more ≡ f t + f s
     gives f adds =
-        adds t.end t.count s.count
-        ∙ ap (λ (e : ℕ). f t + f (record { end = e; count = s.count })) own
+        rw (← own) (adds t.end t.count s.count)
 
     same : (f : Share → ℕ) → AddsUp f
         → left_over f end (at + 1) (set old place more) ≡ left_over f end at old
@@ -71,13 +76,6 @@ summed_with old new start end at place s t here there own from below to is =
           gives f adds,
         )
 
-    at_ends : (many : ℕ) → AreAtEnds many old → AreAtEnds many (set old place more)
-    at_ends many at i u h =
-        elim (get_set_cases old place more i u h) [
-          | inl x ↦ subst (λ (v : Share). v.end < many) x.1 (at place t there)
-          | inr x ↦ at i u x.1
-        ]
-
 -- or it has none
 pub summed_first : (old new : List Share) (start end at : ℕ) (s : Share)
     → slice_get old at ≡ Some s → start ≤ end → end ≤ at → new ≡ set old end s
@@ -89,7 +87,7 @@ summed_first old new start end at s here from to is =
       not_less = omega arith;
       within = omega arith;
       same = same;
-      at_ends = at_ends;
+      at_ends = λ many ends. at_ends_set old end s many (ends at s here) ends;
     })
   where
     within : at < length old
@@ -107,31 +105,20 @@ summed_first old new start end at s here from to is =
           ap (sum_by f) (drop-set-lt (at + 1) old end s (omega arith)),
         )
 
-    at_ends : (many : ℕ) → AreAtEnds many old → AreAtEnds many (set old end s)
-    at_ends many ends i u h =
-        elim (get_set_cases old end s i u h) [
-          | inl x ↦ subst (λ (v : Share). v.end < many) x.1 (ends at s here)
-          | inr x ↦ ends i u x.1
-        ]
-
 -- the sum fits
 pub sum_fits : (old : List Share) (end at place most : ℕ) (s t : Share)
     → slice_get old at ≡ Some s → slice_get old place ≡ Some t → place < end → end ≤ at
     → left_over (λ u. u.count) end at old < most → t.count + s.count < most
 sum_fits old end at place most s t here there below to fits =
-    omega (
+    grind (
       arith,
-      fits,
-      get_or-le-sum_by count_of (take end old) place t
-          (omega (arith, length-take-le end old (omega (arith, within, to)))),
-      ap count_of (get_or-take end old place t below),
-      ap count_of (get_or_from_slice_get old place t t there),
-      sum_by-drop_more count_of old at s within,
-      ap count_of (get_or_from_slice_get old at s s here),
+      get_or-le-sum_by count_of (take end old) place t,
+      length-take-le,
+      get_or-take,
+      get_or_from_slice_get,
+      sum_by-drop_more count_of old at s,
+      slice_get_within,
     )
-  where
-    within : at < length old
-    within = slice_get_within old at s here
 
 -- ---- all of them are
 
@@ -175,11 +162,9 @@ gathered_all start at end old now new past short is all = subst (IsGathered star
   same =
       λ f adds. omega (
         arith,
-        sum_by-take-drop f (take end now) start,
-        ap (sum_by f) before,
+        rw before at (sum_by-take-drop f (take end now) start),
         sum_by-take-drop f old start,
-        sum_by-take-drop f now at,
-        ap (sum_by f) (take_all at now (omega (arith, past, all.long))),
+        rw (take_all at now (omega (arith, past, all.long))) at (sum_by-take-drop f now at),
         all.same f adds,
       );
   at_ends = λ many ends i s h. all.at_ends many ends i s (taken i s h);
@@ -202,13 +187,7 @@ gathered_all start at end old now new past short is all = subst (IsGathered star
 pub gathered_gives : (start : ℕ) (old new : List Share) (f : Share → ℕ) → AddsUp f
     → IsGathered start old new → sum_by f new ≡ sum_by f old
 gathered_gives start old new f adds all =
-    omega (
-      arith,
-      sum_by-take-drop f new start,
-      ap (sum_by f) all.before,
-      sum_by-take-drop f old start,
-      all.same f adds,
-    )
+    rw (← sum_by-take-drop f new start, ← sum_by-take-drop f old start, all.before, all.same f adds)
 
 -- the later ones are of the same ends
 pub at_ends_drop : (many start : ℕ) (shares : List Share) → AreAtEnds many shares
@@ -226,7 +205,7 @@ pub trail_pushed : (trail new : List Share) (one : Share) (many more total later
     → shared trail ≤ total → later ≡ total + one.count
     → AreAtEnds more new × (shared new ≤ later)
 trail_pushed trail new one many more total later is at_ends own le counted later_is = (
-  subst (AreAtEnds more) (sym is) (at_ends_push trail one more own (at_ends_more trail many more le at_ends)),
+  rw is (at_ends_push trail one more own (at_ends_more trail many more le at_ends)),
   omega (arith, ap shared is, sum_by_push count_of trail one, counted, later_is),
 )
 
@@ -250,7 +229,7 @@ pub keeps_at : (old new : TallyValue) (at count : ℕ) → AddsAt old.ends at co
     → new.trail ≡ old.trail ++ record { end = at; count = count } ∷ []
     → KeepsBefore (length old.trail) old new
 keeps_at old new at count adds is = record {
-  longer = omega (arith, ap (λ (xs : List Share). length xs) is, length_push old.trail one);
+  longer = rw (is, length_push) (omega arith);
   told = told;
 }
   where
@@ -263,36 +242,22 @@ keeps_at old new at count adds is = record {
     told : (s : ℕ) (earlier : List ℕ) → s ≤ length old.trail → length earlier ≤ length old.ends
         → AreSince earlier old.ends (drop s old.trail) → AreSince earlier new.ends (drop s new.trail)
     told s earlier le short was =
-        subst (λ (ends : List Ending). AreSince earlier ends (drop s new.trail)) (sym adds.new_is)
-        (subst (AreSince earlier (set old.ends at adds.more))
-        (sym (ap (drop s) is ∙ drop-append-le s old.trail (one ∷ []) le)) (record {
+        rw (adds.new_is, is, drop-append-le s old.trail (one ∷ []) le) (record {
           at_ends =
-              subst (λ (n : ℕ). AreAtEnds n (drop s old.trail ++ one ∷ []))
-              (sym (length-set old.ends at adds.more))
-              (at_ends_push (drop s old.trail) one (length old.ends) within was.at_ends);
+              rw length-set (at_ends_push (drop s old.trail) one (length old.ends) within was.at_ends);
           each = each;
-        }))
+        })
       where
         each : (k : ℕ) (f : Ending) → slice_get (set old.ends at adds.more) k ≡ Some f
             → get_or earlier k 0 + amount_of (drop s old.trail ++ one ∷ []) k ≡ f.count
         each k f h =
             elim (get_set_cases old.ends at adds.more k f h) [
               | inl x ↦
-                  omega (
-                    arith,
-                    was.each k adds.entry (ap (slice_get old.ends) x.0 ∙ adds.here),
-                    amount_push (drop s old.trail) one k,
-                    own_share one k (sym x.0),
-                    adds.count_is,
-                    ap (λ (y : Ending). y.count) x.1,
-                  )
+                  rw (← x.1, adds.count_is, amount_push, own_share one k (sym x.0))
+                  (omega (arith, was.each k adds.entry (rw x.0 adds.here)))
               | inr x ↦
-                  omega (
-                    arith,
-                    was.each k f x.1,
-                    amount_push (drop s old.trail) one k,
-                    other_share one k (λ same. x.0 (sym same)),
-                  )
+                  rw (amount_push, other_share one k (λ same. x.0 (sym same)))
+                  (omega (arith, was.each k f x.1))
             ]
 
 -- an end that is new
@@ -301,7 +266,7 @@ pub keeps_end : (old new : TallyValue) (x : OutcomeValue) (schedule : List ℕ)
     → new.trail ≡ old.trail ++ record { end = length old.ends; count = 1 } ∷ []
     → KeepsBefore (length old.trail) old new
 keeps_end old new x schedule adds is = record {
-  longer = omega (arith, ap (λ (xs : List Share). length xs) is, length_push old.trail one);
+  longer = rw (is, length_push) (omega arith);
   told = told;
 }
   where
@@ -311,39 +276,25 @@ keeps_end old new x schedule adds is = record {
     told : (s : ℕ) (earlier : List ℕ) → s ≤ length old.trail → length earlier ≤ length old.ends
         → AreSince earlier old.ends (drop s old.trail) → AreSince earlier new.ends (drop s new.trail)
     told s earlier le short was =
-        subst (λ (ends : List Ending). AreSince earlier ends (drop s new.trail)) (sym adds.new_is)
-        (subst (AreSince earlier (old.ends ++ adds.entry ∷ []))
-        (sym (ap (drop s) is ∙ drop-append-le s old.trail (one ∷ []) le)) (record {
+        rw (adds.new_is, is, drop-append-le s old.trail (one ∷ []) le) (record {
           at_ends =
-              subst (λ (n : ℕ). AreAtEnds n (drop s old.trail ++ one ∷ []))
-              (sym (length_push old.ends adds.entry))
-              (at_ends_push (drop s old.trail) one (length old.ends + 1) (omega arith)
+              rw length_push (at_ends_push (drop s old.trail) one (length old.ends + 1) (omega arith)
               (at_ends_more (drop s old.trail) (length old.ends) (length old.ends + 1) (omega arith)
               was.at_ends));
           each = each;
-        }))
+        })
       where
         each : (k : ℕ) (f : Ending) → slice_get (old.ends ++ adds.entry ∷ []) k ≡ Some f
             → get_or earlier k 0 + amount_of (drop s old.trail ++ one ∷ []) k ≡ f.count
         each k f h =
             elim (get_push_cases old.ends adds.entry f k h) [
               | inl there ↦ (let less = slice_get_within old.ends k f there in
-                  omega (
-                    arith,
-                    was.each k f there,
-                    amount_push (drop s old.trail) one k,
-                    other_share one k (λ same. omega (arith, same, less)),
-                  ))
-              | inr here ↦
-                  omega (
-                    arith,
-                    get_or_past earlier k 0 (omega (arith, short, here.0)),
-                    amount_past (drop s old.trail) (length old.ends) k was.at_ends (omega (arith, here.0)),
-                    amount_push (drop s old.trail) one k,
-                    own_share one k (sym here.0),
-                    adds.count,
-                    ap (λ (y : Ending). y.count) here.1,
-                  )
+                  rw (amount_push, other_share one k (λ same. omega (arith, same, less)))
+                  (omega (arith, was.each k f there)))
+              | inr here ↦ (let past = get_or_past earlier k 0 (omega (arith, short, here.0)) in
+                  let none =
+                  amount_past (drop s old.trail) (length old.ends) k was.at_ends (omega (arith, here.0)) in
+                  rw (← here.1, adds.count, amount_push, own_share one k (sym here.0), past, none))
             ]
 
 -- sums in place of shares
@@ -360,17 +311,15 @@ keeps_gathered old new start same all at_ends = record { longer = all.longer; to
     amounts s k le =
         omega (
           arith,
-          sum_by-take-drop (count_for k) new.trail s,
+          rw (shorter s le) at (sum_by-take-drop (count_for k) new.trail s),
           sum_by-take-drop (count_for k) old.trail s,
-          ap (sum_by (count_for k)) (shorter s le),
           gathered_gives start old.trail new.trail (count_for k) (amounts_add_up k) all,
         )
 
     told : (s : ℕ) (earlier : List ℕ) → s ≤ start → length earlier ≤ length old.ends
         → AreSince earlier old.ends (drop s old.trail) → AreSince earlier new.ends (drop s new.trail)
     told s earlier le short was =
-        subst (λ (ends : List Ending). AreSince earlier ends (drop s new.trail)) (sym same) (record {
+        rw same (record {
           at_ends = at_ends_drop (length old.ends) s new.trail (all.at_ends (length old.ends) at_ends);
-          each =
-              λ k e h. omega (arith, was.each k e h, amounts s k le);
+          each = λ k e h. rw (amounts s k le) (was.each k e h);
         })

@@ -1,7 +1,7 @@
 -- There is only one number of schedules of a kind.
 use Rattle.std.proofs.Common.{◌≡◌, ℕ, zero, suc, ◌<◌, ◌≤◌, List, length, Option, Some, None, slice_get, refl, ap, sym, ◌∙◌, arith, inl, inr}
 use Rattle.std.specs.Prelude.{◌⊎◌}
-use Rattle.std.proofs.lemmas.Bool.{cases_lt, cases_eq}
+use Rattle.std.proofs.lemmas.Bool.{cases_eq}
 use Rattle.std.proofs.lemmas.Option.{same_Some, slice_get_within}
 use Rattle.hp_laws.proofs.Lists.{get_some}
 use Rattle.hp_schedules.specs.Orders.{AreSome, HasCount, HasMoreThan, Lists}
@@ -15,38 +15,25 @@ choose (inr q) a b = b
 places_below : (m n : ℕ) (f : ℕ → ℕ) → ((i : ℕ) → i < n → f i < m)
     → ((i j : ℕ) → i < n → j < n → f i ≡ f j → i ≡ j) → n ≤ m
 places_below m zero f low apart = omega arith
-places_below zero (suc n) f low apart = absurd (none (low 0 (omega arith)))
+places_below zero (suc n) f low apart = absurd (omega (arith, low 0 (omega arith)))
+places_below (suc m) (suc n) f low apart = omega (arith, places_below m n g low_g apart_g)
   where
-    none : f 0 < 0 → ⊥
-    none h = omega arith
-places_below (suc m) (suc n) f low apart = next (places_below m n g low_g apart_g)
-  where
-    next : n ≤ m → suc n ≤ suc m
-    next h = omega arith
-
     g : ℕ → ℕ
     g i = choose (cases_eq (f i) m) (f n) (f i)
 
     last_low : (i : ℕ) → i < n → f i ≡ m → f n < m
     last_low i less same =
         elim (cases_eq (f n) m) [
-          | inl at ↦
-              absurd (let e : i ≡ n = apart i n (omega arith) (omega arith) (same ∙ sym at) in omega arith)
-          | inr off ↦ (let h : f n < suc m = low n (omega arith) in below (f n) m h off)
+          | inl at ↦ absurd (omega (arith, apart i n (omega arith) (omega arith) (same ∙ sym at)))
+          | inr off ↦ omega (arith, low n (omega arith))
         ]
-      where
-        below : (a b : ℕ) → a < suc b → (a ≡ b → ⊥) → a < b
-        below a b h off = elim (cases_lt a b) [ inl l ↦ l | inr le ↦ absurd (off (omega arith)) ]
 
     low_g : (i : ℕ) → i < n → g i < m
     low_g i less = by_case (cases_eq (f i) m)
       where
-        below : (a b : ℕ) → a < suc b → (a ≡ b → ⊥) → a < b
-        below a b h off = elim (cases_lt a b) [ inl l ↦ l | inr le ↦ absurd (off (omega arith)) ]
-
         by_case : (d : (f i ≡ m) ⊎ (f i ≡ m → ⊥)) → choose d (f n) (f i) < m
         by_case (inl same) = last_low i less same
-        by_case (inr off) = below (f i) m (low i (omega arith)) off
+        by_case (inr off) = omega (arith, low i (omega arith))
 
     apart_g : (i j : ℕ) → i < n → j < n → g i ≡ g j → i ≡ j
     apart_g i j li lj = by_case (cases_eq (f i) m) (cases_eq (f j) m)
@@ -54,10 +41,8 @@ places_below (suc m) (suc n) f low apart = next (places_below m n g low_g apart_
         by_case : (d : (f i ≡ m) ⊎ (f i ≡ m → ⊥)) (e : (f j ≡ m) ⊎ (f j ≡ m → ⊥))
             → choose d (f n) (f i) ≡ choose e (f n) (f j) → i ≡ j
         by_case (inl a) (inl b) h = apart i j (omega arith) (omega arith) (a ∙ sym b)
-        by_case (inl a) (inr b) h =
-            absurd (let e : n ≡ j = apart n j (omega arith) (omega arith) h in omega arith)
-        by_case (inr a) (inl b) h =
-            absurd (let e : i ≡ n = apart i n (omega arith) (omega arith) h in omega arith)
+        by_case (inl a) (inr b) h = absurd (omega (arith, apart n j (omega arith) (omega arith) h))
+        by_case (inr a) (inl b) h = absurd (omega (arith, apart i n (omega arith) (omega arith) h))
         by_case (inr a) (inr b) h = apart i j (omega arith) (omega arith) h
 
 -- ---- two lists of the same schedules
@@ -96,13 +81,9 @@ no_longer P xs ys a b = places_below (length ys) (length xs) f low apart
 
 pub only_count : (P : List ℕ → Type 0) (m n : ℕ) → HasCount P m → HasCount P n → m ≡ n
 only_count P m n a b =
-    omega (
-      arith,
-      a.2,
-      b.2,
-      no_longer P a.0 b.0 (record { each = a.1.each; once = a.1.once }) b.1,
-      no_longer P b.0 a.0 (record { each = b.1.each; once = b.1.once }) a.1,
-    )
+    let le = no_longer P a.0 b.0 (record { each = a.1.each; once = a.1.once }) b.1 in
+    let ge = no_longer P b.0 a.0 (record { each = b.1.each; once = b.1.once }) a.1 in
+    omega (arith, a.2, b.2, le, ge)
 
 -- where there are no more than a limit, there are not more
 pub no_more : (P : List ℕ → Type 0) (m limit : ℕ) → m ≤ limit → HasCount P m → HasMoreThan P limit → ⊥

@@ -1,13 +1,13 @@
 -- What lines ask for does not depend on their receipts' serials, but for the results that they work
 -- on.
-use Rattle.std.proofs.Common.{◌≡◌, ℕ, ◌+◌, Bool, true, false, cond, get_or, ltb, List, [], ◌∷◌, ◌++◌, map, Option, Some, None, refl, ap, sym, subst, ◌∙◌}
+use Rattle.std.proofs.Common.{◌≡◌, ℕ, ◌+◌, true, false, cond, get_or, ltb, List, [], ◌∷◌, ◌++◌, map, Option, Some, None, refl, subst}
 use Rattle.std.specs.Prelude.{option_map}
 use Rattle.std.specs.List.{last_or, list_all}
 use Rattle.std.specs.Option.{option_map_or}
 use Rattle.std.proofs.lemmas.Bool.{and_parts}
 use Rattle.std.proofs.lemmas.List.{map-append}
 use Rattle.std.proofs.lemmas.List.Sums.{sum_by-cons}
-use Rattle.hp_units.specs.Driver.{is_migrate, migrate_or_cancel, next_after, next_drain, next_event, tried}
+use Rattle.hp_units.specs.Driver.{migrate_or_cancel, next_after, next_drain, next_event, tried}
 use Rattle.hp_units.specs.History.{effect_of}
 use Rattle.hp_units.specs.declared.events.Event.{Event}
 use Rattle.hp_units.specs.declared.events.Event.TheVariants.{Begin, DrainFor, Migrate, Commit, Cancel}
@@ -33,34 +33,18 @@ plain rs = map unnumbered rs
 -- as many migrations were tried
 tried_same : (rs : List Receipt) → tried (plain rs) ≡ tried rs
 tried_same [] = refl
-tried_same (r ∷ rs) =
-    sum_by-cons (λ (q : Receipt). cond (is_migrate q.event) 1 0) (unnumbered r) (plain rs)
-    ∙ (ap (λ (n : ℕ). cond (is_migrate r.event) 1 0 + n) (tried_same rs)
-    ∙ sym (sum_by-cons (λ (q : Receipt). cond (is_migrate q.event) 1 0) r rs))
+tried_same (r ∷ rs) = simp (sum_by-cons, tried_same rs)
 
--- so a turn is the same where a migration is left after both or neither
-turn_same : (turns op : ℕ) (xs ys : List Receipt) → ltb (tried xs) turns ≡ ltb (tried ys) turns
-    → migrate_or_cancel turns op xs ≡ migrate_or_cancel turns op ys
-turn_same turns op xs ys same = ap (λ (is_left : Bool). cond is_left (Migrate op) (Cancel op)) same
-
-drain_same : (cpus turns op cpu : ℕ) (xs ys : List Receipt) → ltb (tried xs) turns ≡ ltb (tried ys) turns
-    → next_drain cpus turns op cpu xs ≡ next_drain cpus turns op cpu ys
-drain_same cpus turns op cpu xs ys same =
-    ap (λ (e : Event). cond (ltb cpu cpus) (DrainFor op cpu) e) (turn_same turns op xs ys same)
-
--- and what follows an answer
+-- so the same follows an answer where a migration is left after both or neither
 pub after_same : (cpus turns : ℕ) (xs ys : List Receipt) → ltb (tried xs) turns ≡ ltb (tried ys) turns
     → (e : Event) (reply : Reply)
     → next_after cpus turns xs e reply ≡ next_after cpus turns ys e reply
-after_same cpus turns xs ys same (Begin plan) (Opened op) = ap Some (drain_same cpus turns op 0 xs ys same)
-after_same cpus turns xs ys same (DrainFor op cpu) Done =
-    ap Some (drain_same cpus turns op (cpu + 1) xs ys same)
-after_same cpus turns xs ys same (Migrate op) (Moved from to) = ap Some (turn_same turns op xs ys same)
-after_same cpus turns xs ys same (Migrate op) (Refused NoFrame) =
-    ap Some (drain_same cpus turns op 0 xs ys same)
+after_same cpus turns xs ys same (Begin plan) (Opened op) = rw same
+after_same cpus turns xs ys same (DrainFor op cpu) Done = rw same
+after_same cpus turns xs ys same (Migrate op) (Moved from to) = rw same
+after_same cpus turns xs ys same (Migrate op) (Refused NoFrame) = rw same
 after_same cpus turns xs ys same (Migrate op) (Refused NothingToMove) = refl
-after_same cpus turns xs ys same (Commit op) (Refused (NotFree frame)) =
-    ap Some (drain_same cpus turns op 0 xs ys same)
+after_same cpus turns xs ys same (Commit op) (Refused (NotFree frame)) = rw same
 after_same cpus turns xs ys same e reply = refl
 
 last_same : (rs : List Receipt) (o : Option Receipt)
@@ -71,17 +55,13 @@ last_same (r ∷ rs) o = last_same rs (Some r)
 driver_same : (cpus turns : ℕ) (plan : List Item) (rs : List Receipt)
     → next_event cpus turns plan (plain rs) ≡ next_event cpus turns plan rs
 driver_same cpus turns plan rs =
-    ap (λ (o : Option Receipt). option_map_or (λ r. next_after cpus turns (plain rs) r.event r.reply) o
-    (Some (Begin plan))) (last_same rs None)
-    ∙ by_last (last_or None rs)
-  where
-    by_last : (o : Option Receipt)
-        → option_map_or (λ r. next_after cpus turns (plain rs) r.event r.reply) (option_map unnumbered o)
-        (Some (Begin plan)) ≡ option_map_or (λ r. next_after cpus turns rs r.event r.reply) o
-        (Some (Begin plan))
-    by_last None = refl
-    by_last (Some r) = after_same cpus turns (plain rs) rs
-        (ap (λ (n : ℕ). ltb n turns) (tried_same rs)) r.event r.reply
+    rw (last_same rs None) (elim (last_or None rs) as (λ o.
+    option_map_or (λ r. next_after cpus turns (plain rs) r.event r.reply) (option_map unnumbered o)
+    (Some (Begin plan))
+    ≡ option_map_or (λ r. next_after cpus turns rs r.event r.reply) o (Some (Begin plan))) [
+      | None ↦ refl
+      | Some r ↦ after_same cpus turns (plain rs) rs (rw (tried_same rs)) r.event r.reply
+    ])
 
 -- ---- lines
 
@@ -100,50 +80,27 @@ rest_same : (cpus : ℕ) (known : Known) (line : Step) (earlier later : List Rec
     → after_line cpus known line (plain earlier) (plain later)
     ≡ option_map plain (after_line cpus known line earlier later)
 rest_same cpus known line earlier [] =
-    ap (λ (o : Option Event). option_map_or (λ event. None) o (Some [])) (line_same cpus known line earlier)
-    ∙ by_next (line_next cpus known line earlier)
-  where
-    by_next : (o : Option Event)
-        → option_map_or (λ event. None) o (Some [])
-        ≡ option_map plain (option_map_or (λ event. None) o (Some []))
-    by_next None = refl
-    by_next (Some e) = refl
+    rw (line_same cpus known line earlier) (elim (line_next cpus known line earlier) as (λ o.
+    option_map_or (λ event. None) o (Some [])
+    ≡ option_map plain (option_map_or (λ event. None) o (Some []))) [ None ↦ refl | Some e ↦ refl ])
 rest_same cpus known line earlier (r ∷ rs) =
-    ap (λ (o : Option Event). option_map_or
-    (λ event. after_line cpus known line (plain earlier ++ unnumbered r ∷ []) (plain rs)) o
-    (Some (plain (r ∷ rs)))) (line_same cpus known line earlier)
-    ∙ by_next (line_next cpus known line earlier) (ap
-    (λ (xs : List Receipt). after_line cpus known line xs (plain rs))
-    (sym (map-append unnumbered earlier (r ∷ []))) ∙ rest_same cpus known line (earlier ++ r ∷ []) rs)
-  where
-    by_next : (o : Option Event)
-        → after_line cpus known line (plain earlier ++ unnumbered r ∷ []) (plain rs)
-        ≡ option_map plain (after_line cpus known line (earlier ++ r ∷ []) rs)
-        → option_map_or (λ event. after_line cpus known line (plain earlier ++ unnumbered r ∷ [])
-        (plain rs)) o
-        (Some (plain (r ∷ rs))) ≡ option_map plain
-        (option_map_or (λ event. after_line cpus known line (earlier ++ r ∷ []) rs) o (Some (r ∷ rs)))
-    by_next None longer = refl
-    by_next (Some e) longer = longer
+    rw (line_same cpus known line earlier, ← map-append unnumbered earlier (r ∷ []))
+    (elim (line_next cpus known line earlier) as (λ o.
+    option_map_or (λ event. after_line cpus known line (plain (earlier ++ r ∷ [])) (plain rs)) o
+    (Some (plain (r ∷ rs)))
+    ≡ option_map plain (option_map_or (λ event. after_line cpus known line (earlier ++ r ∷ []) rs) o
+    (Some (r ∷ rs)))) [ None ↦ refl | Some e ↦ rest_same cpus known line (earlier ++ r ∷ []) rs ])
 
 -- what lines ask for
 pub next_plain : (cpus : ℕ) (known : Known) (lines : List Step) (rs : List Receipt)
     → next_in cpus known lines (map unnumbered rs) ≡ next_in cpus known lines rs
 next_plain cpus known [] rs = refl
 next_plain cpus known (line ∷ lines) rs =
-    ap (λ (o : Option (List Receipt)). option_map_or (λ rest. next_in cpus known lines rest) o
-    (line_next cpus known line (plain rs))) (rest_same cpus known line [] rs)
-    ∙ (ap (λ (o : Option Event). option_map_or (λ rest. next_in cpus known lines rest)
-    (option_map plain (after_line cpus known line [] rs)) o) (line_same cpus known line rs)
-    ∙ by_rest (after_line cpus known line [] rs) (λ rest. next_plain cpus known lines rest))
-  where
-    by_rest : (o : Option (List Receipt))
-        → ((rest : List Receipt) → next_in cpus known lines (plain rest) ≡ next_in cpus known lines rest)
-        → option_map_or (λ rest. next_in cpus known lines rest) (option_map plain o)
-        (line_next cpus known line rs)
-        ≡ option_map_or (λ rest. next_in cpus known lines rest) o (line_next cpus known line rs)
-    by_rest None same = refl
-    by_rest (Some rest) same = same rest
+    rw (rest_same cpus known line [] rs, line_same cpus known line rs)
+    (elim (after_line cpus known line [] rs) as (λ o.
+    option_map_or (λ rest. next_in cpus known lines rest) (option_map plain o) (line_next cpus known line rs)
+    ≡ option_map_or (λ rest. next_in cpus known lines rest) o (line_next cpus known line rs))
+    [ None ↦ refl | Some rest ↦ next_plain cpus known lines rest ])
 
 -- ---- no line undoes anything by serials
 
@@ -176,9 +133,7 @@ after_leaves cpus turns rs e reply = tt
 
 step_leaves : (op : ℕ) (work : StepWork) → leaves_steps (effect_of (step_work_of op work)) ≡ true
 step_leaves op (work.DrainFor cpu) = refl
-step_leaves op work.Migrate = refl
-step_leaves op work.Commit = refl
-step_leaves op work.Cancel = refl
+step_leaves op w = refl
 
 work_leaves : (known : Known) (work : OwnWork) → leaves_steps (effect_of (work_of known work)) ≡ true
 work_leaves known (Latest work) = step_leaves known.op work
@@ -193,24 +148,18 @@ line_leaves : (cpus : ℕ) (known : Known) (line : Step) (rs : List Receipt) →
     → Leaves (line_next cpus known line rs)
 line_leaves cpus known (Ask event) rs leaves = once_leaves event rs leaves
 line_leaves cpus known (Own work) rs leaves = once_leaves (work_of known work) rs (work_leaves known work)
-line_leaves cpus known (Carry plan turns) rs leaves = by_last (last_or None rs)
-  where
-    by_last : (o : Option Receipt)
-        → Leaves (option_map_or (λ r. next_after cpus turns rs r.event r.reply) o (Some (Begin plan)))
-    by_last None = refl
-    by_last (Some r) = after_leaves cpus turns rs r.event r.reply
+line_leaves cpus known (Carry plan turns) rs leaves = elim (last_or None rs) as (λ o.
+    Leaves (option_map_or (λ r. next_after cpus turns rs r.event r.reply) o (Some (Begin plan))))
+    [ None ↦ refl | Some r ↦ after_leaves cpus turns rs r.event r.reply ]
 
 pub lines_leave : (cpus : ℕ) (known : Known) (lines : List Step) (rs : List Receipt) (e : Event)
     → list_all is_mergeable_line lines ≡ true → next_in cpus known lines rs ≡ Some e
     → leaves_steps (effect_of e) ≡ true
 lines_leave cpus known [] rs e all is = absurd cc
 lines_leave cpus known (line ∷ lines) rs e all is =
-    by_rest (after_line cpus known line [] rs) is
-    (λ rest. lines_leave cpus known lines rest e (and_parts _ _ all).1)
-  where
-    by_rest : (o : Option (List Receipt))
-        → option_map_or (λ rest. next_in cpus known lines rest) o (line_next cpus known line rs) ≡ Some e
-        → ((rest : List Receipt) → next_in cpus known lines rest ≡ Some e → leaves_steps (effect_of e) ≡ true)
-        → leaves_steps (effect_of e) ≡ true
-    by_rest None h later = subst Leaves h (line_leaves cpus known line rs (and_parts _ _ all).0)
-    by_rest (Some rest) h later = later rest h
+    (elim (after_line cpus known line [] rs) as (λ o.
+    option_map_or (λ rest. next_in cpus known lines rest) o (line_next cpus known line rs) ≡ Some e
+    → leaves_steps (effect_of e) ≡ true) [
+      | None ↦ λ h. subst Leaves h (line_leaves cpus known line rs (and_parts _ _ all).0)
+      | Some rest ↦ λ h. lines_leave cpus known lines rest e (and_parts _ _ all).1 h
+    ]) is

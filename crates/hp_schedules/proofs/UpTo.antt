@@ -1,59 +1,39 @@
 -- The answers up to a cursor.
-use Rattle.std.proofs.Common.{◌≡◌, ℕ, zero, suc, ◌+◌, ◌≤◌, Bool, true, false, cond, List, [], ◌∷◌, ◌++◌, length, take, drop, Option, Some, None, slice_get, refl, ap, sym, subst, ◌∙◌, arith}
+use Rattle.std.proofs.Common.{◌≡◌, ℕ, zero, suc, ◌+◌, ◌≤◌, Bool, true, false, cond, List, [], ◌∷◌, ◌++◌, length, take, drop, Option, Some, None, slice_get, refl, ◌∙◌, arith}
 use Rattle.std.specs.Prelude.{option_map}
-use Rattle.std.specs.Option.{option_map_or}
 use Rattle.std.proofs.lemmas.List.{append-nil, length-append, length-take-le, take-append-drop}
-use Rattle.std.proofs.lemmas.Option.{same_Some}
 use Rattle.std.proofs.Math.ListN.{drop_of_length-le}
 use Rattle.hp_ops.specs.Stages.{MovesOn, end_in, is_over}
-use Rattle.hp_units.specs.Driver.{end_of}
-use Rattle.hp_units.specs.declared.replies.OpEnd.{OpEnd}
 use Rattle.hp_units.specs.declared.replies.Receipt.{Receipt}
-use Rattle.hp_schedules.specs.Cursors.{IsCursor, IsInFirst, IsSettled, carries, cursor_at, has_carried, is_carrying}
+use Rattle.hp_schedules.specs.Cursors.{IsCursor, IsInFirst, IsSettled, carries, has_carried}
 use Rattle.hp_schedules.specs.Interleavings.{is_one_call}
-use Rattle.hp_schedules.specs.LineAnswers.{answers_in, without}
-use Rattle.hp_schedules.specs.Scripts.{after_line, after_lines, nothing_known}
+use Rattle.hp_schedules.specs.LineAnswers.{answers_in}
+use Rattle.hp_schedules.specs.Scripts.{after_lines, nothing_known}
 use Rattle.hp_schedules.specs.declared.cursors.Cursor.{Cursor}
 use Rattle.hp_schedules.specs.declared.line_answers.LineAnswer.{LineAnswer}
 use Rattle.hp_schedules.specs.declared.line_answers.LineAnswer.TheVariants.{Plan as Carried}
 use Rattle.hp_schedules.specs.declared.scripts.Step.{Step}
 use Rattle.hp_schedules.specs.declared.scripts.Step.TheVariants.{Ask, Own, Carry}
-use Rattle.hp_schedules.proofs.Asked.{at_first, lines_here, own_over}
+use Rattle.hp_schedules.proofs.Asked.{at_first, lines_here, own_over, plan_on}
 use Rattle.hp_schedules.proofs.Begun.{asks_none, asks_some, begun_after}
 use Rattle.hp_schedules.proofs.LineAnswers.{answers_many, answers_past, first_on, first_over, none_begun, without_is}
-use Rattle.hp_schedules.proofs.Lines.{goes_on_all}
 
 -- ---- a cursor that a call moved
-
-pub settled_new : (cpus : ℕ) (lines : List Step) (c n : Cursor) (line : Step) (op : ℕ)
-    → slice_get lines c.line ≡ Some line → is_one_call line ≡ true
-    → n ≡ cursor_at cpus lines (c.line + 1) op → IsSettled lines n
-settled_new cpus lines c n line op here one new off k l at there =
-    let same : k ≡ c.line = omega (arith, at, ap (λ (m : Cursor). m.line) new) in
-    subst (λ (s : Step). is_one_call s ≡ true)
-    (same_Some line l (sym here ∙ (ap (slice_get lines) (sym same) ∙ there))) one
 
 pub settled_run : (cpus : ℕ) (lines : List Step) (receipts : List Receipt) (c n : Cursor) (line : Step)
     (r : Receipt)
     → slice_get lines c.line ≡ Some line → is_one_call line ≡ false → n.line ≡ c.line
     → MovesOn c.driver r.event r.reply n.driver → IsCursor cpus lines receipts c → IsSettled lines n
 settled_run cpus lines receipts c n line r here one same moves is off =
-    absurd (no (sym carrying ∙ off))
+    let on = by_line line (at_first cpus lines receipts c line is here) one in
+    let at = rw (same, here) at off in
+    absurd cc
   where
     by_line : (l : Step) → IsInFirst cpus (l ∷ drop (c.line + 1) lines) is.own c.driver
         → is_one_call l ≡ false → carries n l ≡ true
-    by_line (Ask event) at several = absurd cc
-    by_line (Own work) at several = absurd cc
     by_line (Carry plan turns) at several =
         begun_after cpus turns is.own r n.driver (moves cpus turns is.own r refl refl at.0)
-
-    carrying : is_carrying n lines ≡ true
-    carrying =
-        ap (λ (o : Option Step). option_map_or (carries n) o false) (ap (slice_get lines) same ∙ here)
-        ∙ by_line line (at_first cpus lines receipts c line is here) one
-
-    no : true ≡ false → ⊥
-    no same = cc
+    by_line l at several = absurd cc
 
 -- ---- the answers up to a cursor
 
@@ -66,30 +46,22 @@ here_at c (Some line) = cond (has_carried c line) (option_map Carried (end_in c.
 by_own : (cpus : ℕ) (line : Step) (lines : List Step) (own : List Receipt) (c : Cursor)
     → IsInFirst cpus (line ∷ lines) own c.driver
     → answers_in cpus (line ∷ lines) own ≡ here_at c (Some line)
-by_own cpus (Ask event) lines own c at =
-    ap (answers_in cpus (Ask event ∷ lines)) at.0 ∙ none_begun cpus (Ask event ∷ lines)
-by_own cpus (Own work) lines own c at =
-    ap (answers_in cpus (Own work ∷ lines)) at.0 ∙ none_begun cpus (Own work ∷ lines)
-by_own cpus (Carry plan turns) lines own c at = by_end (is_over c.driver.stage) refl
+by_own cpus (Ask event) lines own c first = rw first.0
+by_own cpus (Own work) lines own c first = rw first.0
+by_own cpus (Carry plan turns) lines own c first = by_end (is_over c.driver.stage) refl
   where
     by_end : (b : Bool) → is_over c.driver.stage ≡ b
         → answers_in cpus (Carry plan turns ∷ lines) own
         ≡ cond b (option_map Carried (end_in c.driver.stage) ∷ []) []
     by_end true over =
         first_over cpus (Carry plan turns) lines own []
-        (own_over cpus nothing_known [] (Carry plan turns) lines own c at
+        (own_over cpus nothing_known [] (Carry plan turns) lines own c first
         (asks_none c.driver.stage plan over))
-        ∙ (ap (λ (xs : List (Option LineAnswer)). option_map Carried (end_of (without own [])) ∷ xs)
-        (none_begun cpus lines)
-        ∙ ap (λ (end : Option OpEnd). option_map Carried end ∷ [])
-        (ap end_of (ap (λ (xs : List Receipt). without xs []) (sym (append-nil own)) ∙ without_is own [])
-        ∙ sym at.0.end))
+        ∙ rw (none_begun cpus lines, rw append-nil at (without_is own []), first.0.end)
     by_end false on =
         let next = asks_some c.driver.stage plan on in
         first_on cpus (Carry plan turns) lines own
-        (ap (after_line cpus nothing_known (Carry plan turns) []) (sym (append-nil own))
-        ∙ (at.1 nothing_known [] ∙ goes_on_all cpus nothing_known (Carry plan turns) own next.0
-        (sym (at.0.next plan) ∙ next.1)))
+        (plan_on cpus turns nothing_known plan lines own c.driver next.0 first next.1)
 
 pub past_end : (lines : List Step) (k : ℕ) → slice_get lines k ≡ None → length lines ≤ k
 past_end [] k none = omega arith
@@ -104,18 +76,15 @@ pub up_to : (cpus : ℕ) (lines : List Step) (receipts : List Receipt) (c : Curs
     → slice_get lines c.line ≡ o → IsCursor cpus lines receipts c
     → answers_in cpus lines receipts ≡ before cpus lines receipts c ++ here_at c o
 up_to cpus lines receipts c o here is =
-    ap (λ (ls : List Step). answers_in cpus ls receipts) (sym (take-append-drop c.line lines))
-    ∙ (answers_past cpus (take c.line lines) (drop c.line lines) receipts is.own (is.passed nothing_known)
-    ∙ ap (λ (xs : List (Option LineAnswer)). before cpus lines receipts c ++ xs) (by_line o here))
+    rw (take-append-drop, by_line o here) at
+    (answers_past cpus (take c.line lines) (drop c.line lines) receipts is.own (is.passed nothing_known))
   where
     by_line : (o : Option Step) → slice_get lines c.line ≡ o
         → answers_in cpus (drop c.line lines) is.own ≡ here_at c o
-    by_line None none =
-        ap (λ (ls : List Step). answers_in cpus ls is.own)
-        (drop_of_length-le lines (past_end lines c.line none))
+    by_line None none = rw (drop_of_length-le lines (past_end lines c.line none))
     by_line (Some line) some =
-        ap (λ (ls : List Step). answers_in cpus ls is.own) (lines_here lines c.line line some)
-        ∙ by_own cpus line (drop (c.line + 1) lines) is.own c (at_first cpus lines receipts c line is some)
+        rw (lines_here lines c.line line some)
+        (by_own cpus line (drop (c.line + 1) lines) is.own c (at_first cpus lines receipts c line is some))
 
 pub before_many : (cpus : ℕ) (lines : List Step) (receipts : List Receipt) (k : ℕ) (own : List Receipt)
     → k ≤ length lines → after_lines cpus nothing_known (take k lines) receipts ≡ Some own
@@ -128,10 +97,8 @@ pub many_finished : (cpus : ℕ) (lines : List Step) (receipts : List Receipt) (
     → slice_get lines c.line ≡ o → IsCursor cpus lines receipts c
     → length (answers_in cpus lines receipts) ≡ c.line + length (here_at c o)
 many_finished cpus lines receipts c o here is =
-    ap length (up_to cpus lines receipts c o here is)
-    ∙ (length-append (before cpus lines receipts c) (here_at c o)
-    ∙ ap (λ (n : ℕ). n + length (here_at c o))
-    (before_many cpus lines receipts c.line is.own is.within (is.passed nothing_known)))
+    rw (up_to cpus lines receipts c o here is, length-append)
+    (rw (before_many cpus lines receipts c.line is.own is.within (is.passed nothing_known)))
 
 pub finished_past : (cpus : ℕ) (lines : List Step) (receipts : List Receipt) (c : Cursor)
     → slice_get lines c.line ≡ None → IsCursor cpus lines receipts c
@@ -143,9 +110,6 @@ pub finished_here : (cpus : ℕ) (lines : List Step) (receipts : List Receipt) (
     → slice_get lines c.line ≡ Some line → has_carried c line ≡ over → IsCursor cpus lines receipts c
     → c.line + cond over 1 0 ≡ length (answers_in cpus lines receipts)
 finished_here cpus lines receipts c line over here at_end is =
-    sym (many_finished cpus lines receipts c (Some line) here is
-    ∙ ap (λ (n : ℕ). c.line + n) (one over at_end))
-  where
-    one : (b : Bool) → has_carried c line ≡ b → length (here_at c (Some line)) ≡ cond b 1 0
-    one true e = ap (λ (b : Bool). length (cond b (option_map Carried (end_in c.driver.stage) ∷ []) [])) e
-    one false e = ap (λ (b : Bool). length (cond b (option_map Carried (end_in c.driver.stage) ∷ []) [])) e
+    rw (many_finished cpus lines receipts c (Some line) here is, at_end) (elim over as (λ b.
+    c.line + cond b 1 0 ≡ c.line + length (cond b (option_map Carried (end_in c.driver.stage) ∷ []) []))
+    [ true ↦ refl | false ↦ refl ])

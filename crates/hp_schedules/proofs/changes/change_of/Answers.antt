@@ -5,7 +5,7 @@ use Rattle.hp_units.specs.declared.events.Event.{Event}
 use Rattle.hp_units.specs.declared.replies.Record.{Record}
 use Rattle.hp_units.specs.declared.replies.Refusal.{Refusal}
 use Rattle.hp_units.specs.declared.replies.Reply.{Reply}
-use Rattle.hp_units.specs.declared.replies.Reply.TheVariants.{Done, Frame, Word, Moved, Opened, Restored, Released, Undone, Refused}
+use Rattle.hp_units.specs.declared.replies.Reply.TheVariants.{Refused}
 use Rattle.hp_schedules.specs.Openings.{change_by, change_of}
 use Rattle.hp_schedules.specs.declared.changes.Change.TheVariants.{Stays}
 use Rattle.hp_schedules.proofs.changes.change_of.Goals.{in-Refused, in_default}
@@ -13,15 +13,8 @@ use Rattle.hp_schedules.proofs.changes.change_of.Goals as goal
 
 -- a reply that is no refusal
 not_refused : (reply : Reply) → ((x : Refusal) → reply ≢ Refused x) → is_refused reply ≡ false
-not_refused Done kept = refl
-not_refused (Frame frame) kept = refl
-not_refused (Word word) kept = refl
-not_refused (Moved from to) kept = refl
-not_refused (Opened op) kept = refl
-not_refused Restored kept = refl
-not_refused Released kept = refl
-not_refused (Undone count) kept = refl
 not_refused (Refused x) kept = absurd (kept x refl)
+not_refused reply kept = refl
 
 -- what a record does, where it is refused and where not
 refused_stays : (r : Record) → is_refused r.reply ≡ true → Stays ≡ change_of r

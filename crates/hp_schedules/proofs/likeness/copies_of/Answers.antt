@@ -1,6 +1,4 @@
 -- One processor's replies more.
-use Rattle.std.proofs.Common.{[], ◌∷◌, ◌++◌, List, ap, ◌∙◌}
-use Rattle.hp_units.specs.declared.replies.Reply.{Reply}
 use Rattle.hp_schedules.proofs.Copied.{copied_more}
 use Rattle.hp_schedules.proofs.likeness.copies_of.Goals as goal
 
@@ -9,5 +7,4 @@ loop-answers-preserved c =
     copied_more c.args.all.now c.loop-answers.copies.items c.push_reserved.new.self.items
     c.loop-answers.answers-index c.answers-item.result c.in_ok-copy.copy c.loop-answers-test.true
     c.answers-item.is c.loop-answers.invariant c.in_ok-copy.ensures
-    (c.push_reserved.ensures.items
-    ∙ ap (λ (all : List (List Reply)). all ++ c.in_ok-copy.copy ∷ []) c.in_ok-reserve.ensures.items)
+    (rw (c.push_reserved.ensures.items, c.in_ok-reserve.ensures.items))

@@ -1,6 +1,5 @@
 -- Where each line is one call and the lengths fit, the coefficient is the number.
-use Rattle.std.proofs.Common.{List, ℕ, subst, sym, ◌∙◌}
-use Rattle.hp_schedules.specs.Multinomials.{IsMultinomial}
+use Rattle.std.proofs.Common.{sym, ◌∙◌}
 use Rattle.hp_schedules.proofs.Interleavings.{with_plan}
 use Rattle.hp_schedules.proofs.multinomials.interleavings_of.Goals as goal
 
@@ -12,7 +11,5 @@ returns-then-not-hold_no_plan c =
 pub returns : goal.returns
 returns c = (
   sym c.hold_no_plan.ensures ∙ c.if-not-hold_no_plan.false,
-  λ m is. c.in-None.ensures.none m
-      (subst (λ (ns : List ℕ). IsMultinomial ns m)
-      (sym (c.as_slice-2.ensures.value ∙ c.in_ok-lengths.ensures)) is),
+  λ m is. c.in-None.ensures.none m (rw (c.as_slice-2.ensures.value, c.in_ok-lengths.ensures) is),
 )

@@ -1,5 +1,5 @@
 -- The length of one script more.
-use Rattle.std.proofs.Common.{arith, ◌∙◌, ◌∷◌, ◌++◌, [], List, ap, length}
+use Rattle.std.proofs.Common.{arith, ◌∙◌, List, length}
 use Rattle.hp_schedules.specs.declared.scripts.Step.{Step}
 use Rattle.hp_schedules.proofs.Copied.{has_room, mapped_more}
 use Rattle.hp_schedules.proofs.multinomials.lengths.Goals as goal
@@ -20,7 +20,6 @@ loop-script-preserved c = record {
       c.push_reserved.new.self.items c.loop-script.script-index c.script-item.result
       c.loop-script-test.true
       c.script-item.is c.loop-script.invariant.told
-      (c.push_reserved.ensures.items
-      ∙ ap (λ (lines : List Step). c.loop-script.lengths.items ++ length lines ∷ []) c.lines.ensures);
+      (rw c.lines.ensures at c.push_reserved.ensures.items);
   room = c.push_reserved.ensures.capacity ∙ c.loop-script.invariant.room;
 }

@@ -1,6 +1,6 @@
 -- One turn more multiplies the coefficient by the number of all turns, and divides it by that of
 -- the processor's.
-use Rattle.std.proofs.Common.{◌<◌, arith}
+use Rattle.std.proofs.Common.{arith}
 use Rattle.std.proofs.lemmas.Nat.{mul-lt}
 use Rattle.hp_schedules.proofs.Coefficients.{with_ended, with_exceeded, with_next, with_none}
 use Rattle.hp_schedules.proofs.multinomials.with_length.Goals as goal
@@ -10,13 +10,11 @@ loop-turn-init c = record { coefficient = λ ns all is. with_none ns c.args.coun
 
 pub overflow_mul-more : goal.overflow_mul-more
 overflow_mul-more c =
-    let first : c.from.result < 18446744073709551616 =
-    omega (arith, c.from.ensures, c.loop-turn.invariant.fits) in
-    let second : c.from-in-loop-turn.result < 18446744073709551616 =
-    omega (arith, c.from-in-loop-turn.ensures) in
     omega (
       arith,
-      mul-lt c.from.result c.from-in-loop-turn.result 18446744073709551616 18446744073709551616 first second,
+      mul-lt c.from.result c.from-in-loop-turn.result 18446744073709551616 18446744073709551616
+          (omega (arith, c.from.ensures, c.loop-turn.invariant.fits))
+          (omega (arith, c.from-in-loop-turn.ensures)),
     )
 
 pub returns-then-more-from-clause-none : goal.returns-then-more-from-clause-none

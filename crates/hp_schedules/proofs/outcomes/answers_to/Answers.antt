@@ -1,8 +1,7 @@
 -- What one record more tells.
-use Rattle.std.proofs.Common.{◌∙◌, ◌∷◌, ◌++◌, [], List, length, refl, ap, sym}
+use Rattle.std.proofs.Common.{◌∙◌, length, refl, sym}
 use Rattle.std.proofs.lemmas.Bool.{not-false, not-true}
 use Rattle.std.proofs.lemmas.Option.{slice_get_read}
-use Rattle.hp_units.specs.declared.replies.Reply.{Reply}
 use Rattle.hp_schedules.proofs.Compared.{replies_own, replies_past}
 use Rattle.hp_schedules.proofs.outcomes.answers_to.Goals as goal
 
@@ -20,8 +19,6 @@ loop-record-preserved c =
     let here =
     slice_get_read c.args.records.now (length c.args.records.now) c.loop-record.record-index
     c.record-item.result refl c.loop-record-test.true c.record-item.is in
-    c.push_reserved.ensures.items
-    ∙ (ap (λ (xs : List Reply). xs ++ c.told.result ∷ []) c.in_ok-reserve.ensures.items
-    ∙ (ap (λ (reply : Reply). c.loop-record.replies.items ++ reply ∷ []) c.told.ensures
-    ∙ replies_own c.args.cpu c.loop-record.replies.items c.args.records.now c.loop-record.record-index
-    c.record-item.result here (not-false _ (sym c.ne.ensures ∙ c.if-ne.false)) c.loop-record.invariant))
+    rw (c.push_reserved.ensures.items, c.in_ok-reserve.ensures.items, c.told.ensures)
+    (replies_own c.args.cpu c.loop-record.replies.items c.args.records.now c.loop-record.record-index
+    c.record-item.result here (not-false _ (sym c.ne.ensures ∙ c.if-ne.false)) c.loop-record.invariant)

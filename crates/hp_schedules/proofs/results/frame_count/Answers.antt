@@ -1,6 +1,5 @@
 -- One call after another.
-use Rattle.std.proofs.Common.{Bool, ℕ, ◌≡◌, ◌+◌, ◌≤◌, ◌∙◌, Bool, List, ap, arith, cond, drop, false, length, refl, sym, true}
-use Rattle.std.proofs.lemmas.Option.{slice_get_read}
+use Rattle.std.proofs.Common.{Bool, ℕ, ◌≡◌, ◌+◌, ◌≤◌, ◌∙◌, Bool, List, ap, arith, cond, drop, false, length, sym, true}
 use Rattle.std.proofs.Math.ListN.{drop_of_length-le}
 use Rattle.hp_units.specs.Receipts.{receipts_of}
 use Rattle.hp_units.specs.declared.replies.Receipt.{Receipt}
@@ -38,11 +37,8 @@ loop-call-preserved c = elim c.if-takes_frame.branch [
         ≡ length (frames_of (receipts_of c.args.cpu (drop (c.loop-call.call-index + 1) c.args.news.now)))
         + cond own 1 0
     one_more own is =
-        shown_long frame_of takes c.args.cpu
-        c.args.news.now c.loop-call.call-index c.call-item.result own
-        (slice_get_read c.args.news.now (length c.args.news.now) c.loop-call.call-index c.call-item.result
-        refl c.loop-call-test.true c.call-item.is)
-        (sym c.takes_frame.ensures ∙ is)
+        shown_long frame_of takes c.args.cpu c.args.news.now c.loop-call.call-index c.call-item.result own
+        c.loop-call-test.true c.call-item.is (sym c.takes_frame.ensures ∙ is)
 
 pub returns : goal.returns
 returns c =

@@ -1,5 +1,5 @@
 -- All of them are taken from the room, or one is more than what is left.
-use Rattle.std.proofs.Common.{get_or, refl}
+use Rattle.std.proofs.Common.{refl}
 use Rattle.std.proofs.lemmas.Bool.{false≢true}
 use Rattle.std.proofs.lemmas.Option.{slice_get-get_or}
 use Rattle.hp_schedules.proofs.Shares.{all_left, left_more, none_left, nothing}
@@ -7,24 +7,20 @@ use Rattle.hp_schedules.proofs.tally.fit_in.Goals as goal
 
 pub loop-share-preserved : goal.loop-share-preserved
 loop-share-preserved c =
-    let at = c.loop-share.share-index in
     record {
       so_far =
-          left_more c.args.shares.now c.args.room c.loop-share.left c.in-Some.less at
-          (get_or c.args.shares.now at nothing)
-          (slice_get-get_or c.args.shares.now at nothing c.loop-share-test.true)
+          left_more c.args.shares.now _ _ _ c.loop-share.share-index _
+          (slice_get-get_or c.args.shares.now c.loop-share.share-index nothing c.loop-share-test.true)
           c.loop-share.invariant.so_far c.in-Some.ensures.0 c.in-Some.ensures.1;
     }
 
 pub returns-in-None : goal.returns-in-None
-returns-in-None c =
-    let at = c.loop-share.share-index in (
-      λ told. absurd (false≢true told),
-      λ fits. absurd (none_left c.args.shares.now c.args.room c.loop-share.left at
-          (get_or c.args.shares.now at nothing)
-          (slice_get-get_or c.args.shares.now at nothing c.loop-share-test.true)
-          c.loop-share.invariant.so_far c.in-None.ensures fits),
-    )
+returns-in-None c = (
+  λ told. absurd (false≢true told),
+  λ fits. absurd (none_left c.args.shares.now _ _ c.loop-share.share-index _
+      (slice_get-get_or c.args.shares.now c.loop-share.share-index nothing c.loop-share-test.true)
+      c.loop-share.invariant.so_far c.in-None.ensures fits),
+)
 
 pub returns : goal.returns
 returns c = (

@@ -22,11 +22,7 @@ returns-then-is_one_call-clause-moved c =
 pub returns-clause-moved : goal.returns-clause-moved
 returns-clause-moved c =
     λ receipts event is asked. answered_run c.args.cpus c.args.lines.now receipts c.args.self.now
-    (record {
-      line = c.args.self.now.line;
-      op = c.later_operation-op.result;
-      driver = c.answer.new.self;
-    }) c.in-Some.line.now (receipt_of c.args.latest.now) event
+    _ c.in-Some.line.now (receipt_of c.args.latest.now) event
     (slice_get_read c.args.lines.now (length c.args.lines.now) c.args.self.now.line c.in-Some.line.now refl
     c.in-Some.ensures.lookup.3.0 c.in-Some.ensures.lookup.1)
     (sym c.is_one_call.ensures ∙ c.if-is_one_call.false) asked refl c.later_operation-op.ensures

@@ -1,17 +1,14 @@
 -- The cursor's own line where it is a plan, and else the line before.
-use Rattle.std.proofs.Common.{◌++◌, ◌∷◌, ◌∙◌, [], Option, Some, ap, arith, sym, subst}
+use Rattle.std.proofs.Common.{◌++◌, ◌∷◌, ◌∙◌, [], Some, ap, arith, sym}
 use Rattle.hp_units.specs.declared.replies.Reply.{Reply}
-use Rattle.hp_schedules.specs.LineAnswers.{IsAnswered, answers_in}
-use Rattle.hp_schedules.specs.declared.line_answers.FinishedLine.{FinishedLine}
+use Rattle.hp_schedules.specs.LineAnswers.{answers_in}
 use Rattle.hp_schedules.specs.declared.line_answers.LineAnswer.TheVariants.{Reply as Replied}
 use Rattle.hp_schedules.proofs.Answered.{carried_answered, once_answered}
 use Rattle.hp_schedules.proofs.cursors.Cursor.answered.Goals as goal
 
 pub returns-then-is_carrying : goal.returns-then-is_carrying
 returns-then-is_carrying c =
-    λ cpus receipts r same asked is settled. subst (λ (f : Option FinishedLine).
-    IsAnswered (answers_in cpus c.args.lines.now receipts) f
-    (answers_in cpus c.args.lines.now (receipts ++ r ∷ []))) (sym c.carried.ensures)
+    λ cpus receipts r same asked is settled. rw c.carried.ensures
     (carried_answered cpus c.args.lines.now receipts r c.args.self.now is
     (sym c.is_carrying.ensures ∙ c.if-is_carrying.true))
 

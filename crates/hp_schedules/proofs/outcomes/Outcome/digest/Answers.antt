@@ -1,5 +1,5 @@
 -- One row more.
-use Rattle.std.proofs.Common.{◌≡◌, ℕ, ◌+◌, ◌<◌, List, ap, get_or, length, sym, take, ◌∙◌}
+use Rattle.std.proofs.Common.{◌≡◌, ℕ, ◌+◌, ◌<◌, List, ap, get_or, length, take, ◌∙◌}
 use Rattle.std.specs.Prelude.{fold}
 use Rattle.std.proofs.lemmas.List.Sums.{fold_more}
 use Rattle.hp_units.specs.declared.rows.Row.{Row}
@@ -10,10 +10,7 @@ mixed_more : (start : ℕ) (rows : List Row) (i : ℕ) (row : Row) (digest next 
     → row ≡ get_or rows i row → digest ≡ fold mixed_row start (take i rows) → next ≡ mixed_row digest row
     → next ≡ fold mixed_row start (take (i + 1) rows)
 mixed_more start rows i row digest next within here so_far is =
-    is
-    ∙ (ap (λ (d : ℕ). mixed_row d row) so_far
-    ∙ (ap (mixed_row (fold mixed_row start (take i rows))) here
-    ∙ sym (fold_more mixed_row start rows i row within)))
+    rw (is, so_far, fold_more mixed_row start rows i row within, ← here)
 
 pub loop-row-preserved : goal.loop-row-preserved
 loop-row-preserved c =

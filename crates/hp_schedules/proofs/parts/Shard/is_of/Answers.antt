@@ -1,5 +1,5 @@
 -- The part's number is that of the first records.
-use Rattle.std.proofs.Common.{◌≡◌, ℕ, List, ap, arith, sym, subst, take, ◌∙◌}
+use Rattle.std.proofs.Common.{◌≡◌, ℕ, List, ap, arith, sym, take, ◌∙◌}
 use Rattle.std.proofs.lemmas.Bool.{eq-eqb, eqb-true}
 use Rattle.std.proofs.lemmas.List.{take-map, take_min}
 use Rattle.hp_units.specs.declared.replies.Record.{Record}
@@ -12,9 +12,7 @@ numbered : (n index of calls number : ℕ) (first records : List Record) (part :
     → number ≡ part_number n of (schedule_of first)
     → part_number n part.of (take part.calls (schedule_of records)) ≡ number
 numbered n index of calls number first records part view first_is number_is =
-    subst (λ (p : PartValue). part_number n p.of (take p.calls (schedule_of records)) ≡ number) view
-    (ap (λ (s : List ℕ). part_number n of s)
-    (take-map (λ (r : Record). r.cpu) calls records ∙ ap schedule_of (sym first_is)) ∙ sym number_is)
+    rw (← view, take-map (λ (r : Record). r.cpu) calls records, ← first_is, number_is)
 
 pub returns : goal.returns
 returns c =

@@ -1,5 +1,5 @@
 -- As the processor's cursor says.
-use Rattle.std.proofs.Common.{◌≡◌, Some, ap, arith, length, refl, slice_get, subst, sym, ◌∙◌}
+use Rattle.std.proofs.Common.{ap, arith, length, refl, sym, ◌∙◌}
 use Rattle.std.proofs.lemmas.Option.{slice_get_read}
 use Rattle.hp_units.specs.declared.replies.Record.{Record}
 use Rattle.hp_schedules.proofs.AnswersAt.{answered_at}
@@ -11,12 +11,10 @@ returns c =
     λ g news scripts called all. answered_at g news c.args.latest.now c.args.scripts.now
     c.index-scripts-place.result c.lines.result.now c.args.self.now.cursors.items c.index.result.now
     c.answered.result scripts
-    (subst (λ k. slice_get c.args.scripts.now k ≡ Some c.index-scripts-place.result) cpu_is
-    (slice_get_read c.args.scripts.now (length c.args.scripts.now) _
+    (rw cpu_is at (slice_get_read c.args.scripts.now (length c.args.scripts.now) _
     c.index-scripts-place.result refl (omega (arith, cpu_is, c.requires.scripts)) c.index-scripts-place.is))
     c.lines.ensures
-    (subst (λ k. slice_get c.args.self.now.cursors.items k ≡ Some c.index.result.now) cpu_is
-    (slice_get_read c.args.self.now.cursors.items (length c.args.self.now.cursors.items)
+    (rw cpu_is at (slice_get_read c.args.self.now.cursors.items (length c.args.self.now.cursors.items)
     _ c.index.result.now refl (omega (arith, cpu_is, c.requires.cursors)) c.index.ensures))
     called all
     (λ cpus receipts x reply asked is settled. c.answered.ensures cpus receipts x

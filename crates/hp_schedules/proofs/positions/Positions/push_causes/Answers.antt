@@ -1,5 +1,5 @@
 -- The numbers of what the processor's line met.
-use Rattle.std.proofs.Common.{length, refl}
+use Rattle.std.proofs.Common.{refl}
 use Rattle.std.proofs.lemmas.Option.{slice_get_read}
 use Rattle.std.proofs.lemmas.Result.{on_ok_weaker}
 use Rattle.hp_schedules.specs.Causes.{cause_numbers}
@@ -13,14 +13,9 @@ returns c =
       cause_numbers c.cause-cause.result,
       items,
       two_numbers c.cause-cause.result,
-      λ g news scripts all. caused_at g c.args.cpu news c.args.scripts.now c.index-scripts-place.result
-          c.lines.result.now c.args.self.now.cursors.items c.index.result.now c.cause-cause.result scripts
-          (slice_get_read c.args.scripts.now (length c.args.scripts.now) c.args.cpu
-          c.index-scripts-place.result refl c.requires.scripts c.index-scripts-place.is)
-          c.lines.ensures
-          (slice_get_read c.args.self.now.cursors.items (length c.args.self.now.cursors.items) c.args.cpu
-          c.index.result.now refl c.requires.cursors c.index.ensures)
-          all c.cause-cause.ensures,
+      λ g news scripts all. caused_at g c.args.cpu news c.args.scripts.now _ _ _ _ c.cause-cause.result
+          scripts (slice_get_read _ _ _ _ refl c.requires.scripts c.index-scripts-place.is) c.lines.ensures
+          (slice_get_read _ _ _ _ refl c.requires.cursors c.index.ensures) all c.cause-cause.ensures,
     ))
     (extended c.extend_from_slice.result c.args.numbers.now.items c.extend_from_slice.new.self.items
     c.cause_numbers.result (cause_numbers c.cause-cause.result) c.extend_from_slice.ensures.items

@@ -1,5 +1,5 @@
 -- The numbers of the processor's cursor, and those of the frames that its further lines name.
-use Rattle.std.proofs.Common.{◌≡◌, ◌++◌, ◌∙◌, ℕ, List, ap, arith, length, refl, take}
+use Rattle.std.proofs.Common.{◌≡◌, ◌++◌, ◌∙◌, ℕ, List, ap, arith, refl, take}
 use Rattle.std.proofs.lemmas.List.{append_assoc}
 use Rattle.std.proofs.lemmas.Option.{slice_get_read}
 use Rattle.std.proofs.lemmas.Result.{IfOk-weaker}
@@ -22,21 +22,9 @@ returns c =
       steering_of f c.index-cursor.result.now
           ++ frames_ahead c.index-cursor.result.now c.lines.result.now
           (receipts_of c.args.cpu c.args.news.now),
-      adds all
-          ∙ (ap (λ (xs : List ℕ).
-          xs ++ frames_ahead c.index-cursor.result.now c.lines.result.now
-          (receipts_of c.args.cpu c.args.news.now)) five
-          ∙ append_assoc c.args.numbers.now.items (steering_of f c.index-cursor.result.now)
-          (frames_ahead c.index-cursor.result.now c.lines.result.now
-          (receipts_of c.args.cpu c.args.news.now))),
-      λ g scripts at. steered_at f g c.args.news.now c.args.cpu c.args.scripts.now
-          c.index-scripts-place.result c.lines.result.now c.args.self.now.cursors.items
-          c.index-cursor.result.now scripts
-          (slice_get_read c.args.scripts.now (length c.args.scripts.now) c.args.cpu
-          c.index-scripts-place.result refl c.requires.scripts c.index-scripts-place.is)
-          c.lines.ensures
-          (slice_get_read c.args.self.now.cursors.items (length c.args.self.now.cursors.items) c.args.cpu
-          c.index-cursor.result.now refl c.requires.cursors c.index-cursor.ensures)
-          at,
+      rw (five, append_assoc) at (adds all),
+      λ g scripts at. steered_at f g c.args.news.now c.args.cpu c.args.scripts.now _ _ _ _ scripts
+          (slice_get_read _ _ _ _ refl c.requires.scripts c.index-scripts-place.is) c.lines.ensures
+          (slice_get_read _ _ _ _ refl c.requires.cursors c.index-cursor.ensures) at,
     ))
     c.push_frames.ensures

@@ -15,12 +15,10 @@ returns c =
     (λ q asks g scripts cpus all. requested_at g c.args.news.now c.args.cpus c.args.cpu c.args.scripts.now
     c.index-scripts-place.result c.lines.result.now c.args.self.now.cursors.items
     c.index.result.now q scripts cpus
-    (slice_get_read c.args.scripts.now (length c.args.scripts.now) c.args.cpu c.index-scripts-place.result
-    refl
-    (omega (arith, c.if-place-scripts.false)) c.index-scripts-place.is)
+    (slice_get_read _ (length c.args.scripts.now) c.args.cpu _ refl (omega (arith, c.if-place-scripts.false))
+    c.index-scripts-place.is)
     c.lines.ensures
-    (slice_get_read c.args.self.now.cursors.items (length c.args.self.now.cursors.items) c.args.cpu
-    c.index.result.now refl (omega (arith, c.requires, c.if-place-scripts.false))
-    c.index.ensures)
+    (slice_get_read _ (length c.args.self.now.cursors.items) c.args.cpu _ refl
+    (omega (arith, c.requires, c.if-place-scripts.false)) c.index.ensures)
     all asks)
     c.request.ensures

@@ -14,11 +14,9 @@ loop-share-init c = record {
 
 pub add_at-requires-clause-place : goal.add_at-requires-clause-place
 add_at-requires-clause-place c =
-    let at = c.loop-share.share-index in
-    next_end c.args.self.now.ends c.loop-share.self.ends c.args.shares.now at
-    (get_or c.args.shares.now at nothing)
-    (slice_get-get_or c.args.shares.now at nothing c.loop-share-test.true) c.requires.ends
-    c.loop-share.invariant.added
+    next_end _ _ _ _ _
+    (slice_get-get_or c.args.shares.now c.loop-share.share-index nothing c.loop-share-test.true)
+    c.requires.ends c.loop-share.invariant.added
 
 pub add_at-requires-clause-room : goal.add_at-requires-clause-room
 add_at-requires-clause-room c =
@@ -29,12 +27,10 @@ add_at-requires-clause-room c =
 
 pub loop-share-preserved : goal.loop-share-preserved
 loop-share-preserved c =
-    let at = c.loop-share.share-index in
     record {
       added =
-          adds_more c.args.self.now.ends c.loop-share.self.ends c.add_at.new.self.ends c.args.shares.now at
-          (get_or c.args.shares.now at nothing)
-          (slice_get-get_or c.args.shares.now at nothing c.loop-share-test.true)
+          adds_more _ _ _ _ _ _
+          (slice_get-get_or c.args.shares.now c.loop-share.share-index nothing c.loop-share-test.true)
           c.loop-share.invariant.added c.in_ok-add_at.ensures.added;
       limit_is = c.in_ok-add_at.ensures.limit ∙ c.loop-share.invariant.limit_is;
       told =

@@ -1,7 +1,5 @@
 -- The sums give as much as the shares did.
-use Rattle.std.proofs.Common.{arith, length, refl, subst}
-use Rattle.hp_schedules.specs.Notes.{TallyValue}
-use Rattle.hp_schedules.specs.Trails.{KeepsBefore}
+use Rattle.std.proofs.Common.{length, refl}
 use Rattle.hp_schedules.specs.declared.trail.Share.{Share}
 use Rattle.hp_schedules.proofs.Trails.{counts_add_up, gathered_gives, keeps_gathered}
 use Rattle.hp_schedules.proofs.tally.Tally.gather.Goals as goal
@@ -12,25 +10,9 @@ invariant_of-self c = (
   c.self.invariant.1,
   c.self.invariant.2,
   c.gather.ensures.at_ends (length c.self.inside.ends.items) c.self.invariant.3,
-  omega (
-    arith,
-    gathered_gives c.args.start c.self.inside.trail.shares.items c.gather.new.self.shares.items
-        (λ (s : Share). s.count) counts_add_up c.gather.ensures,
-    c.self.invariant.4,
-  ),
+  rw (gathered_gives _ _ _ (λ (s : Share). s.count) counts_add_up c.gather.ensures) c.self.invariant.4,
 )
 
 pub returns-clause-trail : goal.returns-clause-trail
 returns-clause-trail c =
-    let old : TallyValue = record {
-      limit = c.self.inside.limit;
-      ends = c.self.inside.ends.items;
-      trail = c.self.inside.trail.shares.items;
-    } in
-    let new : TallyValue = record {
-      limit = c.self.inside.limit;
-      ends = c.self.inside.ends.items;
-      trail = c.gather.new.self.shares.items;
-    } in
-    subst (λ (t : TallyValue). KeepsBefore c.args.start t new) c.self.view_is
-    (keeps_gathered old new c.args.start refl c.gather.ensures c.self.invariant.3)
+    rw (← c.self.view_is) (keeps_gathered _ _ c.args.start refl c.gather.ensures c.self.invariant.3)

@@ -8,8 +8,7 @@ loop-at-init c = gathered_none c.args.start c.args.self.now.shares.items
 
 pub loop-at-preserved : goal.loop-at-preserved
 loop-at-preserved c =
-    gathered_more c.args.start c.loop-at.at c.loop-at.end c.sum_up-end.result c.args.self.now.shares.items
-    c.loop-at.self.shares.items c.sum_up-end.new.self.shares.items c.loop-at.invariant c.sum_up-end.ensures
+    gathered_more _ _ _ _ _ _ _ c.loop-at.invariant c.sum_up-end.ensures
 
 pub returns : goal.returns
 returns c =

@@ -1,5 +1,0 @@
-use Rattle.std.proofs.Common.{rules}
-use Rattle.hp_schedules.proofs.outcomes.Outcome.blocks.Goals as goal
-
-pub returns : goal.returns
-returns c = search rules
