@@ -1,5 +1,5 @@
 -- From what an exploration says to what its text promises.
-use Rattle.std.proofs.Common.{◌≡◌, ℕ, ◌≤◌, Bool, List, Option, Some, None, option_map, sum_by, sym, subst, inl, inr}
+use Rattle.std.proofs.Common.{◌≡◌, ℕ, ◌≤◌, Bool, List, Option, Some, None, option_map, sum_by, subst, inl, inr}
 use Rattle.hp_explore.specs.declared.exploring.Exploration.{Exploration}
 use Rattle.std.specs.Prelude.{◌⊎◌}
 use Rattle.hp_schedules.specs.declared.multinomials.HowMany.{HowMany}
@@ -15,7 +15,7 @@ use Rattle.hp_schedules.specs.declared.scripts.Step.{Step}
 use Rattle.hp_schedules.specs.Schedules.{IsComplete, Setting}
 use Rattle.hp_search.specs.declared.forms.EndsForm.{EndsForm}
 use Rattle.hp_search.specs.declared.groups.GroupBy.{GroupBy}
-use Rattle.hp_search.specs.Groups.{AreShown, grouping_of}
+use Rattle.hp_search.specs.Groups.{AreShown}
 use Rattle.hp_search.specs.declared.lab_fault.LabFault.{LabFault}
 use Rattle.hp_search.specs.Ends.{IsMore, IsTold}
 use Rattle.hp_search.specs.Faults.{IsFaultOf, IsToldAs}
@@ -63,16 +63,11 @@ is_explored form by p scripts limit ended x shown text found cpus all same whole
           subst (λ (ss : List (List Step)). AreExplored (setting p.start.machine ss) limit ended x.ends.items
           told.0) same
           (explored_told (setting p.start.machine scripts) limit ended x told.0 whole few room first many
-          stopped (subst (λ (ss : List (List Step)). IsMore ss x.is_whole told.0) (sym same) more));
+          stopped (rw same more));
       ordered = ordered;
       within = within;
       shown = shown.ends.items;
-      grouped =
-          subst (λ (ss : List (List Step)).
-          AreShown (option_map (grouping_of (setting p.start.machine ss)) by)
-          x.ends.items shown.ends.items) same
-          (subst (λ (n : ℕ). AreShown (option_map (λ b. record { by = b; cpus = n; scripts = scripts }) by)
-          x.ends.items shown.ends.items) all grouped);
+      grouped = rw (← same, ← all) grouped;
       told = told.2;
     }
 

@@ -1,5 +1,5 @@
 -- Why a search of a scenario has no answer, and what its answer says.
-use Rattle.std.proofs.Common.{ℕ, List, sym, subst}
+use Rattle.std.proofs.Common.{ℕ, List}
 use Rattle.hp_explore.specs.declared.exploring.ExploreFault.{ExploreFault}
 use Rattle.hp_explore.specs.FindFaults.{IsFindCause, IsRecorded, SparesHistory, find_fault_from}
 use Rattle.hp_explore.specs.Reaching.{IsFound}
@@ -12,7 +12,7 @@ use Rattle.hp_schedules.specs.Schedules.{Setting}
 use Rattle.hp_search.specs.declared.forms.ScheduleForm.{ScheduleForm}
 use Rattle.hp_search.specs.declared.found.FindResult.{FindResult}
 use Rattle.hp_search.specs.declared.lab_fault.LabFault.{LabFault}
-use Rattle.hp_search.specs.declared.lab_fault.LabFault.TheVariants.{NotJson, BadShape, Layout, BadLine, NotForScript, PastLayout, HistoryFull, OutOfMemory}
+use Rattle.hp_search.specs.declared.lab_fault.LabFault.TheVariants.{PastLayout}
 use Rattle.hp_search.specs.Faults.{IsFaultWith, IsToldAs}
 use Rattle.hp_search.specs.Prepared.{IsPrepared, setting_of}
 use Rattle.hp_search.specs.declared.prepared.Prepared.{Prepared}
@@ -25,21 +25,15 @@ pub found_on : (form : ScheduleForm) (names : List (List ℕ)) (before : List Li
     → AreWithin g.layout wanted → IsFound g wanted what → SparesHistory g what → IsRecorded g what
     → IsFoundTold form names before g what text result → IsFoundOn form names before g wanted text result
 found_on form names before g wanted (sought.Nearest s) text result within is room along told =
-    subst (IsFoundOn form names before g wanted text) (sym told.1) (s.items, within, is, along, told.0)
+    rw told.1 (s.items, within, is, along, told.0)
 found_on form names before g wanted sought.Absent text result within is room along told =
-    subst (IsFoundOn form names before g wanted text) (sym told.1) (within, is, room, told.0)
+    rw told.1 (within, is, room, told.0)
 
 -- a fault that any search of a scenario has
 pub not_past : (input : List ℕ) (setup : ℕ) (wanted : List Wanted) (fault : LabFault)
     → IsFaultWith (IsSearchCause wanted) input setup fault → IsFindFaultOf input setup wanted fault
-not_past input setup wanted NotJson h = h
-not_past input setup wanted BadShape h = h
-not_past input setup wanted (Layout f) h = h
-not_past input setup wanted (BadLine n) h = h
-not_past input setup wanted (NotForScript place why) h = h
 not_past input setup wanted (PastLayout n) h = absurd h
-not_past input setup wanted (HistoryFull needed) h = h
-not_past input setup wanted OutOfMemory h = tt
+not_past input setup wanted fault h = h
 
 pub not_found : (input : List ℕ) (setup : ℕ) (wanted : List Wanted) (p : Prepared) (fault : ExploreFault)
     (told : LabFault)

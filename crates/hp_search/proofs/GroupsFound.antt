@@ -1,42 +1,34 @@
 -- The group of an outcome: which outcomes agree, and the hashes that are known.
-use Rattle.std.proofs.Common.{◌≡◌, ℕ, ◌+◌, ◌≤◌, true, false, List, codes, length, Some, None, is_some, slice_get, take, refl, ap, sym, subst, ◌∙◌, inl, inr}
-use Rattle.std.specs.Prelude.{fold, nat_eq}
+use Rattle.std.proofs.Common.{◌≡◌, ℕ, ◌+◌, ◌≤◌, List, length, Some, None, slice_get, take, refl, sym, ◌∙◌, inl, inr}
+use Rattle.std.specs.Prelude.{nat_eq}
+use Rattle.std.proofs.lemmas.Bool.{false≢true}
 use Rattle.std.proofs.lemmas.List.{take_all}
 use Rattle.indexmap.specs.IndexMap.{IndexMap, get}
-use Rattle.hp_units.specs.declared.replies.Reply.{Reply}
-use Rattle.hp_units.specs.declared.rows.Row.{Row}
-use Rattle.hp_text.specs.Separated.{separated}
 use Rattle.hp_laws.proofs.Lists.{get_push_cases}
 use Rattle.hp_laws.proofs.Replays.{take_one}
-use Rattle.hp_schedules.specs.Digests.{mixed}
 use Rattle.hp_schedules.specs.Outcomes.{OutcomeValue}
 use Rattle.hp_schedules.specs.declared.scripts.Step.{Step}
 use Rattle.hp_schedules.specs.declared.tally.Ending.{Ending}
-use Rattle.hp_questions.specs.Likeness.{plans_digest}
-use Rattle.hp_search.specs.Objects.{answer_list, block_string}
 use Rattle.hp_search.specs.Groups.{Agree, AgreeIn, AreKnown, GroupingValue, HasNoGroup, digest_in, part_digest}
 use Rattle.hp_search.specs.declared.groups.GroupBy.{GroupBy}
-use Rattle.hp_search.specs.declared.groups.GroupBy.TheVariants.{Answers, Blocks, Plans}
+use Rattle.hp_search.specs.declared.groups.GroupBy.TheVariants.{Blocks}
 
 -- ---- outcomes that agree
 
 in_self : (by : GroupBy) (cpus : ℕ) (scripts : List (List Step)) (x : OutcomeValue)
     → AgreeIn by cpus scripts x x
 in_self Blocks cpus scripts x = refl
-in_self Answers cpus scripts x = refl
-in_self Plans cpus scripts x = refl
+in_self by cpus scripts x = refl
 
 in_back : (by : GroupBy) (cpus : ℕ) (scripts : List (List Step)) (x y : OutcomeValue)
     → AgreeIn by cpus scripts x y → AgreeIn by cpus scripts y x
 in_back Blocks cpus scripts x y h = sym h
-in_back Answers cpus scripts x y h = sym h
-in_back Plans cpus scripts x y h = sym h
+in_back by cpus scripts x y h = sym h
 
 in_turn : (by : GroupBy) (cpus : ℕ) (scripts : List (List Step)) (x y z : OutcomeValue)
     → AgreeIn by cpus scripts x y → AgreeIn by cpus scripts y z → AgreeIn by cpus scripts x z
 in_turn Blocks cpus scripts x y z h k = h ∙ k
-in_turn Answers cpus scripts x y z h k = h ∙ k
-in_turn Plans cpus scripts x y z h k = h ∙ k
+in_turn by cpus scripts x y z h k = h ∙ k
 
 pub agree_self : (by : GroupingValue) (x : OutcomeValue) → Agree by x x
 agree_self by x = in_self by.by by.cpus by.scripts x
@@ -50,14 +42,8 @@ agree_on by x y z h k = in_turn by.by by.cpus by.scripts x y z h k
 -- have one hash
 same_in : (by : GroupBy) (cpus : ℕ) (scripts : List (List Step)) (x y : OutcomeValue)
     → AgreeIn by cpus scripts x y → digest_in by cpus scripts x ≡ digest_in by cpus scripts y
-same_in Blocks cpus scripts x y h =
-    ap (λ (rows : List Row). fold mixed 0 (separated (codes ", ") block_string true rows)) h
-same_in Answers cpus scripts x y h =
-    ap (λ (all : List (List Reply)). fold mixed 0 (separated (codes ", ") answer_list true all)) h
-same_in Plans cpus scripts x y h = ap plans_digest h
-
-same_digest : (by : GroupingValue) (x y : OutcomeValue) → Agree by x y → part_digest by x ≡ part_digest by y
-same_digest by x y h = same_in by.by by.cpus by.scripts x y h
+same_in Blocks cpus scripts x y h = rw h
+same_in by cpus scripts x y h = rw h
 
 -- ---- the hashes that are known
 
@@ -67,11 +53,8 @@ pub unknown : {S : Type 0} (by : GroupingValue) (groups : List Ending) (x : Outc
     → AreKnown by groups latest → digest ≡ part_digest by x → None ≡ get nat_eq latest digest
     → HasNoGroup by groups x
 unknown by groups x latest digest known is none j g here agrees =
-    let there : is_some (get nat_eq latest digest) ≡ true =
-    subst (λ (d : ℕ). is_some (get nat_eq latest d) ≡ true) (same_digest by g.outcome x agrees ∙ sym is)
-    (known j g here) in
-    let f : false ≡ true = ap is_some none ∙ there in
-    absurd cc
+    let same = same_in by.by by.cpus by.scripts g.outcome x agrees in
+    false≢true (rw (same, ← is, ← none) at (known j g here))
 
 -- ---- the group at a place
 
@@ -80,13 +63,11 @@ pub none_more : (by : GroupingValue) (groups : List Ending) (x : OutcomeValue) (
     → HasNoGroup by (take at groups) x → slice_get groups at ≡ Some g → (Agree by g.outcome x → ⊥)
     → HasNoGroup by (take (at + 1) groups) x
 none_more by groups x at g none here differs k f h agrees =
-    elim (get_push_cases (take at groups) g f k
-    (subst (λ (xs : List Ending). slice_get xs k ≡ Some f) (take_one groups at g here) h)) [
+    elim (get_push_cases (take at groups) g f k (rw (take_one groups at g here) at h)) [
       | inl old ↦ none k f old agrees
-      | inr new ↦ differs (subst (λ (d : Ending). Agree by d.outcome x) (sym new.1) agrees)
+      | inr new ↦ differs (rw new.1 agrees)
     ]
 
 pub none_all : (by : GroupingValue) (groups : List Ending) (x : OutcomeValue) (at : ℕ) → length groups ≤ at
     → HasNoGroup by (take at groups) x → HasNoGroup by groups x
-none_all by groups x at le none =
-    subst (λ (xs : List Ending). HasNoGroup by xs x) (take_all at groups le) none
+none_all by groups x at le none = rw (take_all at groups le) at none

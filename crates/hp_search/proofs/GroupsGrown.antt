@@ -58,9 +58,7 @@ first_longer by x ends e f first = record {
   earliest =
       λ k d h agrees. elim (get_push_cases ends e d k h) [
         | inl old ↦ first.earliest k d old agrees
-        | inr last ↦
-            (let within = slice_get_within ends first.place f first.here in
-            let at = last.0 in omega arith)
+        | inr last ↦ omega (arith, slice_get_within ends first.place f first.here, last.0)
       ];
 }
 
@@ -80,15 +78,12 @@ group_grows : (by : GroupingValue) (ends : List Ending) (e g more : Ending) → 
     → IsGroup by ends g → IsGroup by (ends ++ e ∷ []) more
 group_grows by ends e g more agrees outcome count first is = record {
   leader = is.leader;
-  leads =
-      subst (λ (x : OutcomeValue). IsFirstOf by x (ends ++ e ∷ []) is.leader) (sym outcome)
-      (first_longer by g.outcome ends e is.leader is.leads);
+  leads = rw outcome (first_longer by g.outcome ends e is.leader is.leads);
   outcome = outcome ∙ is.outcome;
   first = first ∙ is.first;
   count =
-      subst (λ (x : OutcomeValue). AddUp by x (ends ++ e ∷ []) more.count) (sym outcome)
-      (subst (AddUp by g.outcome (ends ++ e ∷ [])) (sym count)
-      (adds_more by g.outcome ends e g.count is.count (agree_back by g.outcome e.outcome agrees)));
+      rw (outcome, count)
+      (adds_more by g.outcome ends e g.count is.count (agree_back by g.outcome e.outcome agrees));
 }
 
 -- no end so far is of the group that an end begins
@@ -104,27 +99,24 @@ group_begins : (by : GroupingValue) (ends groups : List Ending) (e g : Ending) �
     → g.first.items ≡ e.first.items → IsGroup by (ends ++ e ∷ []) g
 group_begins by ends groups e g ok none outcome count first = record {
   leader = e;
-  leads = subst (λ (x : OutcomeValue). IsFirstOf by x (ends ++ e ∷ []) e) (sym outcome) leads;
+  leads = rw outcome (record {
+    place = length ends;
+    here = get_end ends e;
+    agrees = agree_self by e.outcome;
+    earliest =
+        λ k d h agrees. elim (get_push_cases ends e d k h) [
+          | inl before ↦ absurd (new_alone by ends groups e ok none k d before agrees)
+          | inr last ↦ omega (arith, last.0)
+        ];
+  });
   outcome = outcome;
   first = first;
   count =
-      subst (λ (x : OutcomeValue). AddUp by x (ends ++ e ∷ []) g.count) (sym outcome)
+      rw outcome
       (subst (AddUp by e.outcome (ends ++ e ∷ [])) (omega (arith, count))
       (adds_more by e.outcome ends e 0
       (none_adds by e.outcome ends (new_alone by ends groups e ok none)) (agree_self by e.outcome)));
 }
-  where
-    leads : IsFirstOf by e.outcome (ends ++ e ∷ []) e
-    leads = record {
-      place = length ends;
-      here = get_end ends e;
-      agrees = agree_self by e.outcome;
-      earliest =
-          λ k d h agrees. elim (get_push_cases ends e d k h) [
-            | inl before ↦ absurd (new_alone by ends groups e ok none k d before agrees)
-            | inr last ↦ (let at = last.0 in omega arith)
-          ];
-    }
 
 -- ---- groups of one end more
 
@@ -142,9 +134,9 @@ was groups at entry more here outcome first k f h =
     elim (get_set_cases groups at more k f h) [
       | inl now ↦ (
         entry,
-        subst (λ (n : ℕ). slice_get groups n ≡ Some entry) (sym now.0) here,
-        sym outcome ∙ ap (λ (d : Ending). d.outcome) now.1,
-        sym first ∙ ap (λ (d : Ending). d.first.items) now.1,
+        rw now.0 here,
+        rw (← now.1) (sym outcome),
+        rw (← now.1) (sym first),
       )
       | inr past ↦ (f, past.1, refl, refl)
     ]
@@ -152,7 +144,7 @@ was groups at entry more here outcome first k f h =
 joined : (by : GroupingValue) (ends groups : List Ending) (e : Ending) (new : List Ending)
     → AreGroups by ends groups → Joins by groups e new → AreGroups by (ends ++ e ∷ []) new
 joined by ends groups e new ok joins =
-    subst (AreGroups by (ends ++ e ∷ [])) (sym counted.new_is)
+    rw counted.new_is
     (record { each = each; every = every; apart = apart; total = total; ordered = ordered })
   where
     counted : AddsAt groups joins.place e.count new
@@ -171,15 +163,13 @@ joined by ends groups e new ok joins =
     later = set groups at more
 
     agrees : Agree by entry.outcome e.outcome
-    agrees =
-        subst (λ (g : Ending). Agree by g.outcome e.outcome)
-        (same_Some joins.has.0 entry (sym joins.has.1 ∙ counted.here)) joins.has.2
+    agrees = rw (same_Some joins.has.0 entry (sym joins.has.1 ∙ counted.here)) at joins.has.2
 
     each : (k : ℕ) (g : Ending) → slice_get later k ≡ Some g → IsGroup by (ends ++ e ∷ []) g
     each k g h =
         elim (get_set_cases groups at more k g h) [
           | inl now ↦
-              subst (IsGroup by (ends ++ e ∷ [])) now.1
+              rw (← now.1)
               (group_grows by ends e entry more agrees counted.outcome_is counted.count_is counted.first
               (ok.each at entry counted.here))
           | inr past ↦
@@ -202,14 +192,13 @@ joined by ends groups e new ok joins =
                 stays.0,
                 stays.1,
                 stays.2,
-                subst (λ (x : OutcomeValue). Agree by x d.outcome) (sym stays.3) has.3,
+                rw stays.3 has.3,
               ))
           | inr last ↦ (
             at,
             more,
             get_set_here groups at more (slice_get_within groups at entry counted.here),
-            subst (λ (x : OutcomeValue). Agree by x d.outcome) (sym counted.outcome_is)
-                (subst (λ (c : Ending). Agree by entry.outcome c.outcome) last.1 agrees),
+            rw (counted.outcome_is, ← last.1) agrees,
           )
         ]
 
@@ -218,19 +207,15 @@ joined by ends groups e new ok joins =
     apart i j f g h k same =
         let a = was groups at entry more counted.here counted.outcome_is counted.first i f h in
         let b = was groups at entry more counted.here counted.outcome_is counted.first j g k in
-        ok.apart i j a.0 b.0 a.1 b.1
-        (subst (λ (x : OutcomeValue). Agree by x b.0.outcome) (sym a.2)
-        (subst (λ (y : OutcomeValue). Agree by f.outcome y) (sym b.2) same))
+        ok.apart i j a.0 b.0 a.1 b.1 (rw (a.2, b.2) same)
 
     total : sum_by (λ (f : Ending). f.count) later ≡ sum_by (λ (f : Ending). f.count) (ends ++ e ∷ [])
     total =
-        let within : at < length groups = slice_get_within groups at entry counted.here in
-        let read =
-        ap (λ (f : Ending). f.count) (get_or_from_slice_get groups at entry entry counted.here) in
         omega (
           arith,
-          sum_by-set (λ (f : Ending). f.count) groups at more entry within,
-          read,
+          sum_by-set (λ (f : Ending). f.count) groups at more entry
+              (slice_get_within groups at entry counted.here),
+          ap (λ (f : Ending). f.count) (get_or_from_slice_get groups at entry entry counted.here),
           counted.count_is,
           ok.total,
           sum_by_push (λ (f : Ending). f.count) ends e,
@@ -240,14 +225,12 @@ joined by ends groups e new ok joins =
     ordered order i j f g less h k =
         let a = was groups at entry more counted.here counted.outcome_is counted.first i f h in
         let b = was groups at entry more counted.here counted.outcome_is counted.first j g k in
-        subst (λ (s : List ℕ). IsBefore s g.first.items) a.3
-        (subst (λ (t : List ℕ). IsBefore a.0.first.items t) b.3
-        (ok.ordered (order_before ends e order) i j a.0 b.0 less a.1 b.1))
+        rw (← a.3, ← b.3) (ok.ordered (order_before ends e order) i j a.0 b.0 less a.1 b.1)
 
 begun : (by : GroupingValue) (ends groups : List Ending) (e : Ending) (new : List Ending)
     → AreGroups by ends groups → Begins by groups e new → AreGroups by (ends ++ e ∷ []) new
 begun by ends groups e new ok begins =
-    subst (AreGroups by (ends ++ e ∷ [])) (sym begins.new_is)
+    rw begins.new_is
     (record { each = each; every = every; apart = apart; total = total; ordered = ordered })
   where
     group : Ending
@@ -263,7 +246,7 @@ begun by ends groups e new ok begins =
               group_stays by ends e g
               (λ same. begins.none k g there (agree_back by e.outcome g.outcome same)) (ok.each k g there)
           | inr last ↦
-              subst (IsGroup by (ends ++ e ∷ [])) last.1
+              rw (← last.1)
               (group_begins by ends groups e group ok begins.none begins.outcome begins.count begins.first)
         ]
 
@@ -278,17 +261,13 @@ begun by ends groups e new ok begins =
             length groups,
             group,
             get_end groups group,
-            subst (λ (x : OutcomeValue). Agree by x d.outcome) (sym begins.outcome)
-                (subst (λ (c : Ending). Agree by e.outcome c.outcome) last.1 (agree_self by e.outcome)),
+            rw (begins.outcome, ← last.1) (agree_self by e.outcome),
           )
         ]
 
     alone : (k : ℕ) (f g : Ending) → slice_get groups k ≡ Some f → group ≡ g → Agree by f.outcome g.outcome
         → ⊥
-    alone k f g there is same =
-        begins.none k f there
-        (subst (λ (x : OutcomeValue). Agree by f.outcome x) begins.outcome
-        (subst (λ (c : Ending). Agree by f.outcome c.outcome) (sym is) same))
+    alone k f g there is same = begins.none k f there (rw (← begins.outcome, is) same)
 
     apart : (i j : ℕ) (f g : Ending) → slice_get later i ≡ Some f → slice_get later j ≡ Some g
         → Agree by f.outcome g.outcome → i ≡ j
@@ -323,9 +302,7 @@ begun by ends groups e new ok begins =
         order one.leads.place (length ends) one.leader e
         (slice_get_within ends one.leads.place one.leader one.leads.here)
         (get_longer ends (e ∷ []) one.leads.place one.leader one.leads.here) (get_end ends e) in
-        subst (λ (s : List ℕ). IsBefore s g.first.items) (sym one.first)
-        (subst (λ (t : List ℕ). IsBefore one.leader.first.items t)
-        (sym begins.first ∙ ap (λ (c : Ending). c.first.items) is) before)
+        rw (one.first, ← is, begins.first) before
 
     ordered : AreInOrder (ends ++ e ∷ []) → AreInOrder later
     ordered order i j f g less h k =
@@ -335,41 +312,22 @@ begun by ends groups e new ok begins =
             | inr b ↦ led i f g order a b.1
           ]
           | inr a ↦ elim (get_push_cases groups group g j k) [
-            | inl b ↦
-                absurd (let within = slice_get_within groups j g b in
-                let at = a.0 in omega arith)
-            | inr b ↦ absurd (let at = a.0 in
-                let also = b.0 in omega arith)
+            | inl b ↦ absurd (omega (arith, slice_get_within groups j g b, a.0))
+            | inr b ↦ absurd (omega (arith, a.0, b.0))
           ]
         ]
 
-grown : (by : GroupingValue) (ends groups : List Ending) (e : Ending) (new : List Ending)
-    → AreGroups by ends groups → AddsEnd by groups e new → AreGroups by (ends ++ e ∷ []) new
-grown by ends groups e new ok adds =
-    elim adds [
-      | inl joins ↦ joined by ends groups e new ok joins
-      | inr begins ↦ begun by ends groups e new ok begins
-    ]
-
 -- ---- groups of the ends so far
-
-pub none_yet : (by : GroupingValue) → AreGroups by [] []
-none_yet by = record {
-  each = λ j g h. absurd cc;
-  every = λ k e h. absurd cc;
-  apart = λ i j f g h k same. absurd cc;
-  total = refl;
-  ordered = λ order i j f g less h k. absurd cc;
-}
 
 pub groups_more : (by : GroupingValue) (ends groups new : List Ending) (at : ℕ) (e : Ending)
     → at < length ends
     → e ≡ get_or ends at e → AreGroups by (take at ends) groups → AddsEnd by groups e new
     → AreGroups by (take (at + 1) ends) new
 groups_more by ends groups new at e within here so_far adds =
-    subst (λ (xs : List Ending). AreGroups by xs new)
-    (sym (take_more ends at e within ∙ ap (λ (f : Ending). take at ends ++ f ∷ []) (sym here)))
-    (grown by (take at ends) groups e new so_far adds)
+    rw (take_more ends at e within, ← here) (elim adds [
+      | inl joins ↦ joined by (take at ends) groups e new so_far joins
+      | inr begins ↦ begun by (take at ends) groups e new so_far begins
+    ])
 
 pub groups_room : (by : GroupingValue) (ends groups : List Ending) (at bound : ℕ) (e : Ending)
     → at < length ends
@@ -377,11 +335,10 @@ pub groups_room : (by : GroupingValue) (ends groups : List Ending) (at bound : �
     → sum_by (λ (f : Ending). f.count) ends < bound
     → sum_by (λ (f : Ending). f.count) groups + e.count < bound
 groups_room by ends groups at bound e within here so_far room =
-    let read : e.count ≡ (get_or ends at e).count = ap (λ (f : Ending). f.count) here in
     omega (
       arith,
       room,
-      read,
+      ap (λ (f : Ending). f.count) here,
       so_far.total,
       sum_by_more_le (λ (f : Ending). f.count) ends at e within,
     )

@@ -1,5 +1,5 @@
 -- From what the parts of an answer say to what the whole promises.
-use Rattle.std.proofs.Common.{◌≡◌, ℕ, ◌-◌, ◌≤◌, List, length, get_or, take, Ok, refl, sym, subst, arith}
+use Rattle.std.proofs.Common.{◌≡◌, ℕ, ◌-◌, ◌≤◌, List, length, get_or, take, Ok, refl, arith}
 use Rattle.std.proofs.lemmas.Option.{slice_get_read}
 use Rattle.hp_scenario.specs.declared.lines.Line.{Line}
 use Rattle.hp_scenario.specs.Scenario.{ScenarioValue}
@@ -11,7 +11,7 @@ use Rattle.hp_schedules.specs.declared.tally.Ending.{Ending}
 use Rattle.hp_schedules.specs.Schedules.{Setting}
 use Rattle.hp_search.specs.FaultOrigins.{start_fault_from}
 use Rattle.hp_search.specs.declared.lab_fault.LabFault.{LabFault}
-use Rattle.hp_search.specs.declared.lab_fault.LabFault.TheVariants.{NotJson, BadShape, Layout, BadLine, NotForScript, PastLayout, HistoryFull, OutOfMemory}
+use Rattle.hp_search.specs.declared.lab_fault.LabFault.TheVariants.{HistoryFull, OutOfMemory}
 use Rattle.hp_search.specs.Ends.{IsNumbered}
 use Rattle.hp_search.specs.Faults.{IsFaultWith, IsFull, IsFullTold, IsToldAs, IsUntold}
 use Rattle.hp_search.specs.Holding.{HoldsAfter, HoldsIn, InScenario}
@@ -44,15 +44,10 @@ pub untold : (C : Setting → ExploreFault → Type 0) (g : Setting) (fault : Ex
 untold C g explore.HistoryFull told is cause = by_told told is
   where
     by_told : (told : LabFault) → IsFullTold g told → IsUntold C g told
-    by_told NotJson is = absurd is
-    by_told BadShape is = absurd is
-    by_told (Layout f) is = absurd is
-    by_told (BadLine n) is = absurd is
-    by_told (NotForScript place why) is = absurd is
-    by_told (PastLayout n) is = absurd is
     by_told (HistoryFull needed) is = (cause, is)
     by_told OutOfMemory is = tt
-untold C g explore.OutOfMemory told is cause = subst (IsUntold C g) (sym is) tt
+    by_told told is = absurd is
+untold C g explore.OutOfMemory told is cause = rw is tt
 
 -- ---- made ready for a search
 
@@ -88,34 +83,22 @@ held_in P input setup p ready h =
       scripts = p.start.scripts.items;
       begun = ready.begun;
       holds =
-          subst (λ (s : ScenarioValue). P s.names (take setup s.lines) (setting_of p)) (sym ready.scenario)
-          (subst (λ (n : ℕ). P (names_of p) (take n p.scenario.lines) (setting_of p)) ready.number h);
+          rw (ready.scenario, ← ready.number) h;
     })
 
 -- why there is no answer there
 pub untold_in : (C : Setting → ExploreFault → Type 0) (input : List ℕ) (setup : ℕ) (p : Prepared)
     (fault : LabFault)
     → IsPrepared input setup p → IsUntold C (setting_of p) fault → IsFaultWith C input setup fault
-untold_in C input setup p NotJson ready h = absurd h
-untold_in C input setup p BadShape ready h = absurd h
-untold_in C input setup p (Layout f) ready h = absurd h
-untold_in C input setup p (BadLine n) ready h = absurd h
-untold_in C input setup p (NotForScript place why) ready h = absurd h
-untold_in C input setup p (PastLayout n) ready h = absurd h
 untold_in C input setup p (HistoryFull needed) ready h = stopped_in (IsFull C needed) input setup p ready h
 untold_in C input setup p OutOfMemory ready h = tt
+untold_in C input setup p fault ready h = absurd h
 
 -- or why it was not made ready, which has nothing to do with the search
 pub unprepared_known : (C : Setting → ExploreFault → Type 0) (input : List ℕ) (setup : ℕ) (fault : LabFault)
     → IsUnprepared input setup fault → IsFaultWith C input setup fault
-unprepared_known C input setup NotJson h = h
-unprepared_known C input setup BadShape h = h
-unprepared_known C input setup (Layout f) h = h
-unprepared_known C input setup (BadLine n) h = h
-unprepared_known C input setup (NotForScript place why) h = h
-unprepared_known C input setup (PastLayout n) h = absurd h
 unprepared_known C input setup (HistoryFull needed) h = absurd (h.holds.holds.0)
-unprepared_known C input setup OutOfMemory h = tt
+unprepared_known C input setup fault h = h
 
 -- ---- the number of an end
 

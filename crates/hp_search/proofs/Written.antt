@@ -19,9 +19,4 @@ pub chained : (a p b q c r d old u v w x y z new : List ℕ) → u ≡ old ++ a 
     → x ≡ w ++ q → y ≡ x ++ c → z ≡ y ++ r → new ≡ z ++ d
     → new ≡ old ++ ((((((a ++ p) ++ b) ++ q) ++ c) ++ r) ++ d)
 chained a p b q c r d old u v w x y z new one two three four five six seven =
-    let to_p = more old u v a p one two in
-    let to_b = more old v w (a ++ p) b to_p three in
-    let to_q = more old w x ((a ++ p) ++ b) q to_b four in
-    let to_c = more old x y (((a ++ p) ++ b) ++ q) c to_q five in
-    let to_r = more old y z ((((a ++ p) ++ b) ++ q) ++ c) r to_c six in
-    more old z new (((((a ++ p) ++ b) ++ q) ++ c) ++ r) d to_r seven
+    rw (seven, six, five, four, three, two, one) (simp append_assoc)

@@ -1,10 +1,6 @@
 -- The ends are those of all complete schedules, or of the first ones.
-use Rattle.std.proofs.Common.{◌∙◌, ap, List, string_bytes, subst}
+use Rattle.std.proofs.Common.{string_bytes}
 use Rattle.std.proofs.lemmas.Result.{err_from_is_err_and}
-use Rattle.hp_units.specs.LayoutParts.{LayoutParts}
-use Rattle.hp_schedules.specs.declared.scripts.Step.{Step}
-use Rattle.hp_explore.specs.Faults.{IsCauseWithin}
-use Rattle.hp_explore.specs.Settings.{setting}
 use Rattle.hp_search.proofs.Explorations.{is_explored}
 use Rattle.hp_search.proofs.exploring.explored.Goals as goal
 
@@ -16,7 +12,7 @@ returns-clause-ok g c =
     is_explored c.args.form c.args.by c.args.prepared.now c.as_slice-scripts.result.now c.args.limit _
     c.in_ok-explored.explored c.in_ok-shown.shown (string_bytes f.text) f.is_found
     c.cpus-processors.result
-    (c.cpus-processors.ensures.is ∙ ap (λ (l : LayoutParts). l.cpus) c.layout.ensures)
+    (rw c.layout.ensures at c.cpus-processors.ensures.is)
     c.as_slice-scripts.ensures.value h.ok h.few h.room h.first h.many h.stopped
     h.ordered h.within s.ends s.whole
     c.in-Ok.ensures.ok
@@ -24,7 +20,4 @@ returns-clause-ok g c =
 pub returns-in_err-explored-clause-err : goal.returns-in_err-explored-clause-err
 returns-in_err-explored-clause-err g c =
     let p = err_from_is_err_and c.from_residual.result c.from_residual.ensures.1 in
-    rw (p.1, p.2)
-    (subst (λ (ss : List (List Step)). IsCauseWithin (setting c.args.prepared.now.start.machine ss)
-    c.args.limit c.in_err-explored.field-0.0) c.as_slice-scripts.ensures.value
-    c.in_err-explored.ensures.full)
+    rw (p.1, p.2) (rw c.as_slice-scripts.ensures.value at c.in_err-explored.ensures.full)

@@ -1,8 +1,6 @@
 -- What holds on the machine where the search begins holds in the scenario.
-use Rattle.std.proofs.Common.{string_bytes, subst}
+use Rattle.std.proofs.Common.{string_bytes}
 use Rattle.std.proofs.lemmas.Result.{err_from_is_err_and}
-use Rattle.hp_units.specs.LayoutParts.{LayoutParts}
-use Rattle.hp_questions.specs.Limits.{AreWithin, IsFirstPast}
 use Rattle.hp_search.proofs.Known.{held_in, stopped_in, unprepared_known}
 use Rattle.hp_search.specs.Findings.{IsFoundOn, IsPastLayout, IsSearchCause}
 use Rattle.hp_search.proofs.Findings.{not_found, not_past}
@@ -21,12 +19,10 @@ pub returns-in-Some-clause-err : goal.returns-in-Some-clause-err
 returns-in-Some-clause-err g c =
     stopped_in (IsPastLayout c.args.wanted.now c.in-Some.number) c.args.input.now c.args.setup
     c.in_ok-prepared.prepared c.in_ok-prepared.ensures.ok
-    (subst (λ (l : LayoutParts). IsFirstPast l c.args.wanted.now c.in-Some.number) c.layout.ensures
-    c.in-Some.ensures.some)
+    (rw c.layout.ensures at c.in-Some.ensures.some)
 
 pub found-requires-clause-within : goal.found-requires-clause-within
-found-requires-clause-within g c κs within =
-    subst (λ (l : LayoutParts). AreWithin l c.args.wanted.now) c.layout.ensures c.in_default.ensures.none
+found-requires-clause-within g c κs within = rw c.layout.ensures at c.in_default.ensures.none
 
 pub returns-in-Ok-clause-ok : goal.returns-in-Ok-clause-ok
 returns-in-Ok-clause-ok g c =
@@ -39,5 +35,5 @@ pub returns-clause-err : goal.returns-clause-err
 returns-clause-err g c =
     not_found c.args.input.now c.args.setup c.args.wanted.now c.in_ok-prepared.prepared c.in-Err.fault
     c.told_fault.result c.in_ok-prepared.ensures.ok
-    (subst (λ (l : LayoutParts). AreWithin l c.args.wanted.now) c.layout.ensures c.in_default.ensures.none)
+    (rw c.layout.ensures at c.in_default.ensures.none)
     c.told_fault.ensures c.in-Err.ensures.err

@@ -1,6 +1,5 @@
 -- One end more.
-use Rattle.std.proofs.Common.{◌^◌, subst, ◌∙◌}
-use Rattle.hp_search.specs.Groups.{AddsEnd, GroupingValue}
+use Rattle.std.proofs.Common.{◌^◌, ◌∙◌}
 use Rattle.hp_search.proofs.GroupsGrown.{groups_more, groups_room}
 use Rattle.hp_search.proofs.groups.groups_of.Goals as goal
 
@@ -16,6 +15,5 @@ loop-end-preserved c = record {
       groups_more c.args.by.now c.args.ends.now c.loop-end.groups.ends
       c.add.new.self.ends c.loop-end.end-index
       c.end-item.result c.loop-end-test.true c.end-item.is c.loop-end.invariant.so_far
-      (subst (λ (by : GroupingValue). AddsEnd by c.loop-end.groups.ends c.end-item.result c.add.new.self.ends)
-      c.loop-end.invariant.by c.in_ok-add.ensures.ok);
+      (rw c.loop-end.invariant.by at c.in_ok-add.ensures.ok);
 }

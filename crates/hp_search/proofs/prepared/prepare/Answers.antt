@@ -1,7 +1,5 @@
-use Rattle.std.proofs.Common.{ℕ, List, Option, refl, subst}
+use Rattle.std.proofs.Common.{refl}
 use Rattle.std.proofs.lemmas.Result.{err_from_is_err_and}
-use Rattle.hp_starts.specs.Starts.{HasStart}
-use Rattle.hp_scenario.specs.Seen.{scenario_seen}
 use Rattle.hp_names.specs.Seen.{named_seen}
 use Rattle.hp_search.proofs.Known.{unready}
 use Rattle.hp_search.proofs.prepared.prepare.Goals as goal
@@ -22,8 +20,5 @@ returns-clause-ok c = record {
   plain = named_seen c.in_ok-scenario.field-0;
   resolved = c.in_ok-scenario.ensures;
   scenario = refl;
-  begun =
-      subst (λ (sources : List (Option ℕ)). HasStart (scenario_seen c.in_ok-scenario.field-0.scenario) sources
-      c.args.setup c.in_ok-start.start.machine c.in_ok-start.start.scripts.items)
-      c.as_slice.ensures c.in_ok-start.ensures.ok;
+  begun = rw c.as_slice.ensures at c.in_ok-start.ensures.ok;
 }

@@ -1,27 +1,13 @@
-use Rattle.std.proofs.Common.{List, Option, Bor, ◌++◌, option_map, ap, ◌∙◌, string_bytes, subst}
 use Rattle.std.proofs.lemmas.Result.{err_from_is_err_and}
-use Rattle.hp_units.specs.LayoutParts.{LayoutParts}
-use Rattle.hp_units.specs.declared.replies.Record.{Record}
-use Rattle.hp_explore.specs.Faults.{FillsAlong}
-use Rattle.hp_schedules.specs.Schedules.{plays}
-use Rattle.hp_search.specs.Words.{end_text}
-use Rattle.hp_search.specs.Prepared.{names_of, setting_of}
 use Rattle.hp_search.proofs.prepared.Prepared.write_numbered.Goals as goal
 
 pub returns-clause-ok : goal.returns-clause-ok
 returns-clause-ok c =
-    let g = setting_of c.args.self.now in
-    let text = λ (l : LayoutParts) (calls : Option (List Record)).
-    string_bytes c.args.out.now ++ end_text (names_of c.args.self.now) l c.args.number c.args.end.now calls in
-    c.in_ok-write_end.ensures
-    ∙ (ap (λ (l : LayoutParts).
-    text l (option_map (λ (x : Bor (List Record)). x.now) c.calls_of-calls.result)) c.layout-layout.ensures
-    ∙ ap (text g.layout)
-    (c.calls_of-calls.ensures ∙ c.in_ok-played.ensures.calls ∙ ap (plays g) c.as_slice.ensures.value))
+    let calls = rw (c.in_ok-played.ensures.calls, c.as_slice.ensures.value) at c.calls_of-calls.ensures in
+    rw (c.layout-layout.ensures, calls) at c.in_ok-write_end.ensures
 
 pub returns-in_err-played-clause-along : goal.returns-in_err-played-clause-along
 returns-in_err-played-clause-along c =
     let p = err_from_is_err_and c.from_residual.result c.from_residual.ensures.1 in
     rw (p.1, p.2)
-    (λ full. subst (FillsAlong (setting_of c.args.self.now)) c.as_slice.ensures.value
-    (c.in_err-played.ensures.along full))
+    (λ full. rw c.as_slice.ensures.value at (c.in_err-played.ensures.along full))

@@ -1,4 +1,4 @@
-use Rattle.std.proofs.Common.{◌+◌, List, ℕ, ◌++◌, codes, length, ap, refl, sym, ◌∙◌, append_assoc}
+use Rattle.std.proofs.Common.{string_bytes, ◌+◌, ◌++◌, codes, length, ap, refl, sym, append_assoc}
 use Rattle.std.proofs.lemmas.Option.{slice_get_read}
 use Rattle.std.proofs.lemmas.Result.{err_from_is_err_and}
 use Rattle.hp_text.proofs.Texts.{texts_more, texts_none}
@@ -21,9 +21,8 @@ loop-index-preserved c =
     slice_get_read ends (length ends) index e refl c.loop-index-test.true c.index-ends-index.is in
     texts_more (object_at names g ends) index _ _ _ (end_keys names g (index + 1) e ++ codes "}\n")
     c.loop-index.invariant
-    (c.in_ok-push_str.ensures.bytes
-    ∙ (ap (λ (l : List ℕ). l ++ codes "}\n") c.in_ok-write_end_keys.ensures.ok
-    ∙ append_assoc _ (end_keys names g (index + 1) e) (codes "}\n")))
+    (rw (c.in_ok-write_end_keys.ensures.ok, append_assoc (string_bytes c.loop-index.out))
+    at c.in_ok-push_str.ensures.bytes)
     (ap (numbered_object names g (index + 1)) (sym here))
 
 pub returns-in_err-write_end_keys-clause-along : goal.returns-in_err-write_end_keys-clause-along

@@ -1,9 +1,7 @@
-use Rattle.std.proofs.Common.{◌≡◌, ℕ, ◌+◌, ◌++◌, length, ap, ◌∙◌, append_assoc, refl, sym, string_bytes, arith}
+use Rattle.std.proofs.Common.{◌≡◌, ◌+◌, length, ap, ◌∙◌, append_assoc, refl, sym, string_bytes, arith}
 use Rattle.std.proofs.lemmas.Option.{slice_get_read}
 use Rattle.std.proofs.lemmas.Result.{err_from_is_err_and}
 use Rattle.hp_text.proofs.Texts.{texts_more, texts_none}
-use Rattle.hp_text.specs.State.{texts_below}
-use Rattle.hp_search.specs.Words.{counts_text}
 use Rattle.hp_search.specs.Prepared.{names_of, setting_of}
 use Rattle.hp_search.specs.Texts.{end_at_text, numbered_text}
 use Rattle.hp_search.proofs.prepared.Prepared.write_words.Goals as goal
@@ -26,13 +24,9 @@ loop-index-preserved c =
 
 pub returns-clause-ok : goal.returns-clause-ok
 returns-clause-ok c =
-    let ends = c.args.ends.now in
-    let old = string_bytes c.args.out.now in
-    let text = end_at_text (names_of c.args.self.now) (setting_of c.args.self.now) ends in
-    let all : c.loop-index.index ≡ length ends =
+    let all : c.loop-index.index ≡ length c.args.ends.now =
     omega (arith, c.loop-index.auto.index-end, c.loop-index-test.false) in
-    c.loop-index.invariant ∙ (ap (λ (k : ℕ). old ++ counts_text ends c.args.more ++ texts_below text k) all
-    ∙ append_assoc old (counts_text ends c.args.more) (texts_below text (length ends)))
+    rw (all, append_assoc (string_bytes c.args.out.now)) at c.loop-index.invariant
 
 pub returns-in_err-write_numbered-clause-along : goal.returns-in_err-write_numbered-clause-along
 returns-in_err-write_numbered-clause-along c =
