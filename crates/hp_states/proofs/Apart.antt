@@ -1,5 +1,5 @@
 -- Codes that tell what they are the codes of apart, whatever stands after them.
-use Rattle.std.proofs.Common.{ℕ, zero, suc, ◌≡◌, ◌+◌, ◌/◌, ◌%◌, ◌^◌, ◌<◌, List, [], ◌∷◌, ◌++◌, None, Some, length, refl, sym, ◌∙◌, ap, arith, inl, inr, append_assoc}
+use Rattle.std.proofs.Common.{ℕ, zero, suc, ◌≡◌, ◌+◌, ◌/◌, ◌^◌, ◌<◌, List, [], ◌∷◌, ◌++◌, None, Some, length, refl, sym, ◌∙◌, arith, inl, inr, append_assoc}
 use Rattle.std.proofs.lemmas.Bool.{cases_Bool, cond-true, cond-false, ltb-true}
 use Rattle.std.specs.List.{AllByRecursion, flat_map}
 use Rattle.std.specs.Prelude.{nat_lt}
@@ -12,19 +12,17 @@ abbrev pub TellsApart : {A : Type 0} → (A → List ℕ) → Type 0
 TellsApart {A} code =
     (a b : A) (xs ys : List ℕ) → code a ++ xs ≡ code b ++ ys → (a ≡ b) × (xs ≡ ys)
 
-pub heads : (a b : ℕ) (xs ys : List ℕ) → a ∷ xs ≡ b ∷ ys → (a ≡ b) × (xs ≡ ys)
-heads a b xs ys e = ((cc), (cc))
+pub heads : {a b : ℕ} {xs ys : List ℕ} → a ∷ xs ≡ b ∷ ys → (a ≡ b) × (xs ≡ ys)
+heads e = ((cc), (cc))
 
 -- ---- numbers
 
 low_bytes-apart : (more : ℕ) → TellsApart (low_bytes more)
-low_bytes-apart zero a b xs ys e = heads a b xs ys e
+low_bytes-apart zero a b xs ys e = heads e
 low_bytes-apart (suc more) a b xs ys e =
-    let h = heads (a % 256) (b % 256) (low_bytes more (a / 256) ++ xs) (low_bytes more (b / 256) ++ ys) e in
+    let h = heads e in
     let rest = low_bytes-apart more (a / 256) (b / 256) xs ys h.1 in
-    let low = h.0 in
-    let high = rest.0 in
-    (omega arith, rest.1)
+    (omega (arith, h.0, rest.0), rest.1)
 
 -- how many bytes more than one stand after a mark above 252
 abbrev after_mark : ℕ → ℕ
@@ -56,22 +54,17 @@ form_of n = elim (cases_Bool (nat_lt n 253)) [
 -- the codes of two numbers by their forms
 by_forms : (a b : ℕ) → Form a → Form b → (xs ys : List ℕ) → number_code a ++ xs ≡ number_code b ++ ys
     → (a ≡ b) × (xs ≡ ys)
-by_forms a b (small low is) (small below at) xs ys e =
-    heads a b xs ys (ap (λ (zs : List ℕ). zs ++ xs) (sym is) ∙ (e ∙ ap (λ (zs : List ℕ). zs ++ ys) at))
-by_forms a b (small low is) (wide k at) xs ys e =
-    let h = heads a (253 + k) xs (low_bytes (after_mark k) b ++ ys)
-    (ap (λ (zs : List ℕ). zs ++ xs) (sym is) ∙ (e ∙ ap (λ (zs : List ℕ). zs ++ ys) at)) in
+by_forms a b (small low is) (small below also) xs ys e = heads (rw (is, also) at e)
+by_forms a b (small low is) (wide k also) xs ys e =
+    let h = heads (rw (is, also) at e) in
     absurd (omega (arith, h.0))
-by_forms a b (wide j is) (small below at) xs ys e =
-    let h = heads (253 + j) b (low_bytes (after_mark j) a ++ xs) ys
-    (ap (λ (zs : List ℕ). zs ++ xs) (sym is) ∙ (e ∙ ap (λ (zs : List ℕ). zs ++ ys) at)) in
+by_forms a b (wide j is) (small below also) xs ys e =
+    let h = heads (rw (is, also) at e) in
     absurd (omega (arith, h.0))
-by_forms a b (wide j is) (wide k at) xs ys e =
-    let h = heads (253 + j) (253 + k) (low_bytes (after_mark j) a ++ xs) (low_bytes (after_mark k) b ++ ys)
-    (ap (λ (zs : List ℕ). zs ++ xs) (sym is) ∙ (e ∙ ap (λ (zs : List ℕ). zs ++ ys) at)) in
+by_forms a b (wide j is) (wide k also) xs ys e =
+    let h = heads (rw (is, also) at e) in
     let same : k ≡ j = omega (arith, h.0) in
-    low_bytes-apart (after_mark j) a b xs ys
-    (h.1 ∙ ap (λ (m : ℕ). low_bytes (after_mark m) b ++ ys) same)
+    low_bytes-apart (after_mark j) a b xs ys (rw same at h.1)
 
 pub number-apart : TellsApart number_code
 number-apart a b xs ys e = by_forms a b (form_of a) (form_of b) xs ys e
@@ -80,16 +73,12 @@ number-apart a b xs ys e = by_forms a b (form_of a) (form_of b) xs ys e
 
 pub option-apart : TellsApart option_code
 option-apart None None xs ys e = (refl, (number-apart 0 0 xs ys e).1)
-option-apart None (Some b) xs ys e =
-    let h = number-apart 0 (b + 1) xs ys e in
-    absurd (omega (arith, h.0))
-option-apart (Some a) None xs ys e =
-    let h = number-apart (a + 1) 0 xs ys e in
-    absurd (omega (arith, h.0))
+option-apart None (Some b) xs ys e = absurd (omega (arith, (number-apart 0 (b + 1) xs ys e).0))
+option-apart (Some a) None xs ys e = absurd (omega (arith, (number-apart (a + 1) 0 xs ys e).0))
 option-apart (Some a) (Some b) xs ys e =
     let h = number-apart (a + 1) (b + 1) xs ys e in
     let same : a ≡ b = omega (arith, h.0) in
-    (ap (λ (n : ℕ). Some n) same, h.1)
+    (cc, h.1)
 
 -- ---- many, one after another
 
@@ -97,14 +86,11 @@ option-apart (Some a) (Some b) xs ys e =
 pub many-apart : {A : Type 0} (code : A → List ℕ) → TellsApart code → (us vs : List A) (xs ys : List ℕ)
     → length us ≡ length vs → flat_map code us ++ xs ≡ flat_map code vs ++ ys → (us ≡ vs) × (xs ≡ ys)
 many-apart code tells [] [] xs ys size e = (refl, e)
-many-apart code tells [] (b ∷ vs) xs ys size e = absurd (omega arith)
-many-apart code tells (a ∷ us) [] xs ys size e = absurd (omega arith)
-many-apart {A} code tells (a ∷ us) (b ∷ vs) xs ys size e =
-    let first = tells a b (flat_map code us ++ xs) (flat_map code vs ++ ys)
-    (sym (append_assoc (code a) (flat_map code us) xs)
-    ∙ (e ∙ append_assoc (code b) (flat_map code vs) ys)) in
+many-apart code tells (a ∷ us) (b ∷ vs) xs ys size e =
+    let first = tells a b (flat_map code us ++ xs) (flat_map code vs ++ ys) (simp append_assoc at e) in
     let rest = many-apart code tells us vs xs ys (omega arith) first.1 in
-    (ap (λ (c : A). c ∷ us) first.0 ∙ ap (λ (cs : List A). b ∷ cs) rest.0, rest.1)
+    (cc, rest.1)
+many-apart code tells _ _ xs ys size e = absurd (omega arith)
 
 -- rows of us many each
 pub rows-apart : {A : Type 0} (code : A → List ℕ) → TellsApart code → (count : ℕ) (us vs : List (List A))
@@ -113,15 +99,12 @@ pub rows-apart : {A : Type 0} (code : A → List ℕ) → TellsApart code → (c
     → AllByRecursion (λ row. length row ≡ count) vs
     → flat_map (flat_map code) us ++ xs ≡ flat_map (flat_map code) vs ++ ys → (us ≡ vs) × (xs ≡ ys)
 rows-apart code tells count [] [] xs ys size left right e = (refl, e)
-rows-apart code tells count [] (b ∷ vs) xs ys size left right e = absurd (omega arith)
-rows-apart code tells count (a ∷ us) [] xs ys size left right e = absurd (omega arith)
-rows-apart {A} code tells count (a ∷ us) (b ∷ vs) xs ys size left right e =
+rows-apart code tells count (a ∷ us) (b ∷ vs) xs ys size left right e =
     let first = many-apart code tells a b (flat_map (flat_map code) us ++ xs)
-    (flat_map (flat_map code) vs ++ ys) (left.0 ∙ sym right.0)
-    (sym (append_assoc (flat_map code a) (flat_map (flat_map code) us) xs)
-    ∙ (e ∙ append_assoc (flat_map code b) (flat_map (flat_map code) vs) ys)) in
+    (flat_map (flat_map code) vs ++ ys) (left.0 ∙ sym right.0) (simp append_assoc at e) in
     let rest = rows-apart code tells count us vs xs ys (omega arith) left.1 right.1 first.1 in
-    (ap (λ (c : List A). c ∷ us) first.0 ∙ ap (λ (cs : List (List A)). b ∷ cs) rest.0, rest.1)
+    (cc, rest.1)
+rows-apart code tells count _ _ xs ys size left right e = absurd (omega arith)
 
 -- numbers with their count, or a number of it, in front
 numbers-apart : (m n : ℕ) (us vs : List ℕ) (xs ys : List ℕ) → (m ≡ n → length us ≡ length vs)
@@ -129,8 +112,7 @@ numbers-apart : (m n : ℕ) (us vs : List ℕ) (xs ys : List ℕ) → (m ≡ n �
     → (us ≡ vs) × (xs ≡ ys)
 numbers-apart m n us vs xs ys size e =
     let count = number-apart m n (flat_map number_code us ++ xs) (flat_map number_code vs ++ ys)
-    (sym (append_assoc (number_code m) (flat_map number_code us) xs)
-    ∙ (e ∙ append_assoc (number_code n) (flat_map number_code vs) ys)) in
+    (simp append_assoc at e) in
     many-apart number_code number-apart us vs xs ys (size count.0) count.1
 
 pub counted-apart : TellsApart counted_code
@@ -139,13 +121,11 @@ counted-apart us vs xs ys e = numbers-apart (length us) (length vs) us vs xs ys 
 pub words-apart : TellsApart words_code
 words-apart None None xs ys e = (refl, (number-apart 0 0 xs ys e).1)
 words-apart None (Some vs) xs ys e =
-    let h = number-apart 0 (length vs + 1) xs (flat_map number_code vs ++ ys)
-    (e ∙ append_assoc (number_code (length vs + 1)) (flat_map number_code vs) ys) in
+    let h = number-apart 0 (length vs + 1) xs (flat_map number_code vs ++ ys) (simp append_assoc at e) in
     absurd (omega (arith, h.0))
 words-apart (Some us) None xs ys e =
-    let h = number-apart (length us + 1) 0 (flat_map number_code us ++ xs) ys
-    (sym (append_assoc (number_code (length us + 1)) (flat_map number_code us) xs) ∙ e) in
+    let h = number-apart (length us + 1) 0 (flat_map number_code us ++ xs) ys (simp append_assoc at e) in
     absurd (omega (arith, h.0))
 words-apart (Some us) (Some vs) xs ys e =
     let h = numbers-apart (length us + 1) (length vs + 1) us vs xs ys (λ same. omega arith) e in
-    (ap (λ (ws : List ℕ). Some ws) h.0, h.1)
+    (cc, h.1)

@@ -1,7 +1,7 @@
 -- The counts of ends, as a list.
 use Rattle.std.proofs.Common.{◌≡◌, ℕ, zero, suc, ◌≤◌, List, [], ◌∷◌, length, get_or, Some, slice_get, ap, arith}
 use Rattle.std.proofs.lemmas.List.{get_or_past, length-map}
-use Rattle.std.proofs.lemmas.Option.{none-some, same_Some}
+use Rattle.std.proofs.lemmas.Option.{same_Some}
 use Rattle.hp_schedules.specs.Shares.{AreSince}
 use Rattle.hp_states.specs.Frames.{counts_of}
 use Rattle.hp_schedules.specs.declared.tally.Ending.{Ending}
@@ -20,7 +20,4 @@ count_past ends k past = get_or_past (counts_of ends) k 0 (omega (arith, past, c
 
 -- nothing is counted since now
 pub since_now : (ends : List Ending) → AreSince (counts_of ends) ends []
-since_now ends = record {
-  at_ends = λ i s h. absurd (none-some s h);
-  each = λ k e h. omega (arith, count_read ends k e h);
-}
+since_now ends = grind (arith, count_read)

@@ -1,5 +1,5 @@
 -- The rows of the blocks so far.
-use Rattle.std.proofs.Common.{◌≡◌, ℕ, ◌+◌, List, [], ◌∷◌, ◌++◌, slice_get, ap, sym, ◌∙◌, arith}
+use Rattle.std.proofs.Common.{◌≡◌, ℕ, ◌+◌, List, [], ◌∷◌, ◌++◌, slice_get, arith}
 use Rattle.std.proofs.lemmas.List.FromFn.{map-range_with_len_more}
 use Rattle.hp_units.specs.Memory.{Memory}
 use Rattle.hp_units.specs.declared.rows.Row.{Row}
@@ -10,7 +10,5 @@ pub rows_more : (all : List Row) (s : Memory) (row : Row) (block : ℕ) → all 
     → row ≡ ended_row (slice_get s.blocks.rows block)
     → all ++ row ∷ [] ≡ ended_rows_below (block + 1) s
 rows_more all s row block so_far is =
-    ap (λ (xs : List Row). xs ++ row ∷ []) so_far
-    ∙ (ap (λ (y : Row). ended_rows_below block s ++ y ∷ []) is
-    ∙ sym (map-range_with_len_more (λ (b : ℕ). ended_row (slice_get s.blocks.rows b)) 0 block block
-    (omega arith)))
+    let more = map-range_with_len_more (λ (b : ℕ). ended_row (slice_get s.blocks.rows b)) 0 block block in
+    rw (so_far, is, ← more (omega arith))

@@ -1,15 +1,15 @@
 -- A place that the walk comes to: its frame, and what goes on from there.
-use Rattle.std.proofs.Common.{◌≡◌, ℕ, ◌≤◌, List, [], length, refl, ap, sym, subst, arith, inr}
+use Rattle.std.proofs.Common.{◌≡◌, ℕ, ◌≤◌, List, length, arith}
 use Rattle.std.proofs.lemmas.List.{append-nil, drop_all, length-map}
 use Rattle.hp_units.specs.declared.replies.Record.{Record}
 use Rattle.hp_schedules.specs.Notes.{TallyValue}
 use Rattle.hp_schedules.specs.Parts.{AllOfPart, ComesTo, IsOfPart, PartValue}
 use Rattle.hp_schedules.specs.Schedules.{Setting, schedule_of}
-use Rattle.hp_schedules.specs.Shares.{AddsShares, AreSince}
+use Rattle.hp_schedules.specs.Shares.{AddsShares}
 use Rattle.hp_schedules.specs.Trails.{KeepsBefore}
 use Rattle.hp_schedules.specs.declared.trail.Share.{Share}
 use Rattle.hp_schedules.proofs.Trails.{keeps_none}
-use Rattle.hp_states.specs.Frames.{GoOn, IsAdded, IsEntered, IsEnteredWithin, IsFrame, IsFresh, IsPlaceReached, counts_of}
+use Rattle.hp_states.specs.Frames.{GoOn, IsAdded, IsEntered, IsEnteredWithin, IsFrame, IsFresh}
 use Rattle.hp_states.specs.Seen.{Grow}
 use Rattle.hp_states.specs.Walks.{IsPartWalkedBefore, IsPartWalkedThrough}
 use Rattle.hp_states.specs.declared.frames.Entry.{Entry}
@@ -17,7 +17,7 @@ use Rattle.hp_states.specs.declared.frames.Entry.TheVariants.{Counted, Open}
 use Rattle.hp_states.specs.declared.frames.Level.{Level}
 use Rattle.hp_states.proofs.Counts.{counts_many, since_now}
 use Rattle.hp_states.proofs.Grown.{grow_none, grow_twice}
-use Rattle.hp_states.proofs.OfPart.{NoneOfPart, all_of, none_of}
+use Rattle.hp_states.proofs.OfPart.{all_of, none_of}
 use Rattle.hp_states.proofs.Rooms.{done_apart}
 
 -- ---- as the walk goes on
@@ -26,22 +26,7 @@ pub frame_goes_on : (g : Setting) (part : PartValue) (start : ℕ) (old new : Ta
     (news : List Record) (frame : Level)
     → frame.start ≤ start → GoOn start old new → IsFrame g part news old frame
     → IsFrame g part news new frame
-frame_goes_on g part start old new news frame le on is = record {
-  comes = is.comes;
-  within = omega (arith, le, on.told.longer);
-  reached = record {
-    old = is.reached.old;
-    counted =
-        on.told.told frame.start (counts_of is.reached.old) le
-        (omega (arith, counts_many is.reached.old, is.reached.grown.longer)) is.reached.counted;
-    before = is.reached.before;
-    grown = grow_twice is.reached.old old.ends new.ends is.reached.grown on.grown;
-  };
-}
-
--- nothing is done
-pub go_on_none : (t : TallyValue) → GoOn (length t.trail) t t
-go_on_none t = record { grown = grow_none t.ends; told = keeps_none t }
+frame_goes_on g part start old new news frame le on is = search (arith, grow_twice, counts_many, on.told.told)
 
 -- one after the other
 pub go_on_twice : (start later : ℕ) (old mid new : TallyValue) → start ≤ later → GoOn later old mid
@@ -60,10 +45,7 @@ go_on_twice start later old mid new le first then = record {
 -- what was counted is added up
 pub go_on_gathered : (start : ℕ) (old new : TallyValue) → new.ends ≡ old.ends → KeepsBefore start old new
     → GoOn start old new
-go_on_gathered start old new same told = record {
-  grown = subst (Grow old.ends) (sym same) (grow_none old.ends);
-  told = told;
-}
+go_on_gathered start old new same told = grind (arith, grow_none)
 
 -- ---- a place that the walk comes to
 
@@ -72,64 +54,49 @@ fresh_frame : (g : Setting) (news : List Record) (part : PartValue) (tally : Tal
     → ComesTo (length g.scripts) part (schedule_of news)
     → IsPartWalkedBefore g part (schedule_of news) tally.ends → IsFresh tally frame
     → IsFrame g part news tally frame
-fresh_frame g news part tally frame comes walked fresh = record {
+fresh_frame g news part tally frame comes walked fresh = rw fresh (record {
   comes = comes;
-  within = omega (arith, ap (λ (f : Level). f.start) fresh);
-  reached =
-      subst (IsPlaceReached g part news tally) (sym (ap (λ (f : Level). f.start) fresh)) (record {
-        old = tally.ends;
-        counted =
-            subst (AreSince (counts_of tally.ends) tally.ends)
-            (sym (drop_all (length tally.trail) tally.trail (omega arith))) (since_now tally.ends);
-        before = walked.counted;
-        grown = grow_none tally.ends;
-      });
-}
+  within = omega arith;
+  reached = record {
+    old = tally.ends;
+    counted = rw (drop_all (length tally.trail) tally.trail (omega arith)) (since_now tally.ends);
+    before = walked.counted;
+    grown = grow_none tally.ends;
+  };
+})
 
 pub entered_fresh : (g : Setting) (news : List Record) (part : PartValue) (tally : TallyValue)
     (frame : Level)
     → ComesTo (length g.scripts) part (schedule_of news)
     → IsPartWalkedBefore g part (schedule_of news) tally.ends → IsFresh tally frame
     → IsEntered g news part tally tally (Open frame)
-entered_fresh g news part tally frame comes walked fresh =
-    (refl, fresh, fresh_frame g news part tally frame comes walked fresh)
+entered_fresh g news part tally frame comes walked fresh = grind (arith, fresh_frame)
 
 -- where all that go on from there belong to the part
 pub entered_within : (g : Setting) (news : List Record) (tally : TallyValue) (frame : Level)
     → IsFresh tally frame
     → IsEnteredWithin g news tally tally (Open frame)
-entered_within g news tally frame fresh part all walked =
-    entered_fresh g news part tally frame
-    (inr (all (schedule_of news) ([], sym (append-nil (schedule_of news))))) walked fresh
+entered_within g news tally frame fresh part all walked = grind (arith, entered_fresh, append-nil)
 
 -- it is another part's, as was found out of its records
-pub left_out : (g : Setting) (part : PartValue) (news records : List Record) (n : ℕ) (t : TallyValue)
-    → records ≡ news → n ≡ length g.scripts → part.calls ≤ length records
-    → (IsOfPart n part (schedule_of records) → ⊥) → IsPartWalkedBefore g part (schedule_of news) t.ends
+pub left_out : (g : Setting) (part : PartValue) (news : List Record) (n : ℕ) (t : TallyValue)
+    → n ≡ length g.scripts → part.calls ≤ length news → (IsOfPart n part (schedule_of news) → ⊥)
+    → IsPartWalkedBefore g part (schedule_of news) t.ends
     → IsPartWalkedThrough g part (schedule_of news) t.ends × GoOn (length t.trail) t t
-left_out g part news records n t is many long apart walked = (
+left_out g part news n t many long apart walked = (
   done_apart g part (schedule_of news) t.ends
-      (subst (λ (h : List Record). NoneOfPart (length g.scripts) part (schedule_of h)) is
-      (none_of (length g.scripts) part (schedule_of records)
-      (omega (arith, long, length-map records (λ (r : Record). r.cpu)))
-      (λ of. apart (subst (λ (k : ℕ). IsOfPart k part (schedule_of records)) (sym many) of)))) walked,
-  go_on_none t,
+      (none_of (length g.scripts) part (schedule_of news)
+      (omega (arith, long, length-map news (λ (r : Record). r.cpu))) (λ of. apart (rw many of))) walked,
+  record { grown = grow_none t.ends; told = keeps_none t },
 )
 
 -- or all that go on from there do
-pub let_in : (g : Setting) (news : List Record) (part : PartValue) (records : List Record) (n : ℕ)
-    (old new : TallyValue)
+pub let_in : (g : Setting) (news : List Record) (part : PartValue) (n : ℕ) (old new : TallyValue)
     (entry : Entry)
-    → records ≡ news → n ≡ length g.scripts → part.calls ≤ length records
-    → IsOfPart n part (schedule_of records) → IsPartWalkedBefore g part (schedule_of news) old.ends
+    → n ≡ length g.scripts → part.calls ≤ length news → IsOfPart n part (schedule_of news)
+    → IsPartWalkedBefore g part (schedule_of news) old.ends
     → IsEnteredWithin g news old new entry → IsEntered g news part old new entry
-let_in g news part records n old new entry is many long of walked within =
-    within part
-    (subst (λ (h : List Record). AllOfPart (length g.scripts) part (schedule_of h)) is
-    (all_of (length g.scripts) part (schedule_of records)
-    (omega (arith, long, length-map records (λ (r : Record). r.cpu)))
-    (subst (λ (k : ℕ). IsOfPart k part (schedule_of records)) many of)))
-    walked
+let_in g news part n old new entry many long of walked within = grind (arith, all_of, length-map)
 
 -- or what was counted from another place is counted once more, as far as there is room
 pub entered_added : (g : Setting) (news : List Record) (old new : TallyValue) (shares : List Share)
@@ -143,5 +110,4 @@ entered_added g news old new shares Counted walked added part all before =
     let through = walked added.0 part all before in
     (through.0, record { grown = through.1; told = added.1 })
 entered_added g news old new shares (Open frame) walked added part all before =
-    subst (λ (t : TallyValue). IsEnteredWithin g news old t (Open frame)) (sym added.0)
-    (entered_within g news old frame added.1) part all before
+    rw added.0 (entered_within g news old frame added.1 part all before)

@@ -1,16 +1,14 @@
 -- The numbers of processors' exchanges, as a walk goes on and back.
 use Rattle.std.proofs.Common.{◌≡◌, ℕ, zero, suc, ◌+◌, ◌<◌, ◌≤◌, Bool, true, false, cond, eqb, List, [], ◌∷◌, ◌++◌, length, map, replicate, set, Some, slice_get, refl, ap, sym, ◌∙◌, arith, inl, inr}
-use Rattle.std.proofs.lemmas.Bool.{eq-eqb, eqb-true}
-use Rattle.std.proofs.lemmas.List.{append-nil, map-append, same_from_push}
-use Rattle.std.proofs.lemmas.Option.{same_Some, slice_get_within}
+use Rattle.std.proofs.lemmas.Bool.{cases_eq, eq-eqb, ne_eqb}
+use Rattle.std.proofs.lemmas.List.{append-nil, length_push, map-append, same_from_push}
+use Rattle.std.proofs.lemmas.Option.{slice_get_within}
 use Rattle.hp_units.specs.Receipts.{receipt_of, receipts_of}
-use Rattle.hp_units.specs.declared.events.Event.{Event}
 use Rattle.hp_units.specs.declared.replies.Receipt.{Receipt}
 use Rattle.hp_units.specs.declared.replies.Record.{Record}
-use Rattle.hp_units.specs.declared.replies.Reply.{Reply}
 use Rattle.hp_laws.proofs.Lists.{get_some}
 use Rattle.hp_schedules.specs.Alike.{exchanges, unnumbered}
-use Rattle.hp_states.specs.Exchanges.{AreAmong, AreExchanged, ExchangesValue, IsBefore, IsChained, IsExchanged, at_end, chains_of, exchange_below, exchange_in, exchange_of}
+use Rattle.hp_states.specs.Exchanges.{AreAmong, AreExchanged, ExchangesValue, IsBefore, IsChained, at_end, chains_of, exchange_below, exchange_in, exchange_of}
 use Rattle.hp_states.specs.Interned.{IsMadeOf, KeepNumbers}
 use Rattle.hp_schedules.specs.Schedules.{Setting}
 use Rattle.hp_states.specs.declared.exchanges.Exchange.{Exchange}
@@ -32,11 +30,8 @@ exchanges_own cpu h r whose = exchanges_push cpu h r true (eq-eqb r.cpu cpu whos
 
 pub exchanges_other : (cpu : ℕ) (h : List Record) (r : Record) → (cpu ≡ r.cpu → ⊥)
     → exchanges cpu (h ++ r ∷ []) ≡ exchanges cpu h
-exchanges_other cpu h r off = by_owner (eqb r.cpu cpu) refl
-  where
-    by_owner : (b : Bool) → eqb r.cpu cpu ≡ b → exchanges cpu (h ++ r ∷ []) ≡ exchanges cpu h
-    by_owner true e = absurd (off (sym (eqb-true r.cpu cpu e)))
-    by_owner false e = exchanges_push cpu h r false e ∙ append-nil (exchanges cpu h)
+exchanges_other cpu h r off =
+    exchanges_push cpu h r false (ne_eqb r.cpu cpu (λ same. off (sym same))) ∙ append-nil (exchanges cpu h)
 
 -- ---- a chain's entry
 
@@ -44,24 +39,17 @@ pub chained_added : (old new : List Exchange) (e : Exchange) (x : Receipt) (numb
     → number ≡ length old + 1 → exchange_of e ≡ x
     → IsChained (chains_of old) (chains_of new) x e.below number
 chained_added old new e x number is number_is same xs h =
-    made_added exchange_below at_end old new e number xs is number_is h
-    ∙ ap (λ (y : Receipt). Some (xs ++ y ∷ [])) same
+    rw (← same) (made_added exchange_below at_end old new e number xs is number_is h)
 
 -- the exchanges before its last
 pub before_entry : (chains : List (List Receipt)) (number : ℕ) (e : Exchange)
     → IsMadeOf exchange_below at_end chains number e → IsBefore chains number e.below
-before_entry chains number e at xs x h =
-    at.1
-    ∙ ap Some (same_from_push at.0 xs (exchange_of e) x (same_Some (at.0 ++ exchange_of e ∷ []) (xs ++ x ∷ [])
-    (sym at.2 ∙ h))).0
+before_entry chains number e made xs x h = grind (arith, same_from_push)
 
 pub before_none : (chains : List (List Receipt)) (number before : ℕ)
     → ((xs : List Receipt) → slice_get chains number ≡ Some xs → xs ≡ []) → IsBefore chains number before
-before_none chains number before none xs x h = absurd (no_end xs (none (xs ++ x ∷ []) h))
-  where
-    no_end : (ys : List Receipt) → ys ++ x ∷ [] ≡ [] → ⊥
-    no_end [] is = cc
-    no_end (y ∷ ys) is = cc
+before_none chains number before none xs x h =
+    absurd (omega (arith, length_push xs x, ap length (none (xs ++ x ∷ []) h)))
 
 -- ---- all processors
 
@@ -69,12 +57,9 @@ before_none chains number before none xs x h = absurd (no_end xs (none (xs ++ x 
 pub exchanged_past : (g : Setting) (news : List Record) (r : Record) (x : ExchangesValue)
     → length x.here ≤ r.cpu → AreExchanged g news x → AreExchanged g (news ++ r ∷ []) x
 exchanged_past g news r x past are cpu within =
-    let at = are cpu within in
-    let less = slice_get_within x.here cpu at.0 at.1 in (
-      at.0,
-      at.1,
-      at.2 ∙ ap Some (sym (exchanges_other cpu news r (λ same. omega (arith, same, less, past)))),
-    )
+    let known = are cpu within in
+    let less = slice_get_within x.here cpu known.0 known.1 in
+    rw (exchanges_other cpu news r (λ same. omega (arith, same, less, past))) known
 
 -- a processor's call
 pub exchanged_on : (g : Setting) (news : List Record) (r : Record) (old new : ExchangesValue)
@@ -83,40 +68,30 @@ pub exchanged_on : (g : Setting) (news : List Record) (r : Record) (old new : Ex
     → KeepNumbers old.chains new.chains → IsChained old.chains new.chains (exchange_in r) was number
     → new.here ≡ set old.here c number → AreExchanged g news old → AreExchanged g (news ++ r ∷ []) new
 exchanged_on g news r old new c was number whose inside here keep chained is are cpu within =
-    by_place (eqb cpu c) refl
-  where
-    by_place : (own : Bool) → eqb cpu c ≡ own
-        → (n : ℕ) × (slice_get new.here cpu ≡ Some n) × IsExchanged new.chains cpu (news ++ r ∷ []) n
-    by_place true e =
-        let same : cpu ≡ c = eqb-true cpu c e in
-        let at = are cpu within in
-        let was_is : at.0 ≡ was = same_Some at.0 was (sym at.1 ∙ (ap (slice_get old.here) same ∙ here)) in (
-          number,
-          ap (λ (ns : List ℕ). slice_get ns cpu) is
-              ∙ (ap (slice_get (set old.here c number)) same ∙ get_set_here old.here c number inside),
-          chained (exchanges cpu news) (ap (slice_get old.chains) (sym was_is) ∙ at.2)
-              ∙ ap Some (sym (exchanges_own cpu news r (whose ∙ sym same))),
-        )
-    by_place false e =
-        let at = are cpu within in
-        let off : cpu ≡ c → ⊥ =
-        (λ same. let t : eqb cpu c ≡ true = eq-eqb cpu c same in let f : true ≡ false = sym t ∙ e in cc) in (
-          at.0,
-          ap (λ (ns : List ℕ). slice_get ns cpu) is ∙ get_set_other old.here c number cpu at.0 off at.1,
-          keep at.0 (exchanges cpu news) at.2
-              ∙ ap Some (sym (exchanges_other cpu news r (λ same. off (same ∙ whose)))),
-        )
+    let known = are cpu within in
+    elim (cases_eq cpu c) [
+      | inl same ↦
+          let was_is : known.0 ≡ was = cc in (
+            number,
+            rw (is, same) (get_set_here old.here c number inside),
+            rw (exchanges_own cpu news r (whose ∙ sym same))
+                (chained (exchanges cpu news) (rw was_is at known.2)),
+          )
+      | inr off ↦ (
+        known.0,
+        rw is (get_set_other old.here c number cpu known.0 off known.1),
+        rw (exchanges_other cpu news r (λ same. off (same ∙ whose)))
+            (keep known.0 (exchanges cpu news) known.2),
+      )
+    ]
 
 -- and back over one
 pub exchanged_back_past : (g : Setting) (news : List Record) (r : Record) (x : ExchangesValue)
     → length x.here ≤ r.cpu → AreExchanged g (news ++ r ∷ []) x → AreExchanged g news x
 exchanged_back_past g news r x past are cpu within =
-    let at = are cpu within in
-    let less = slice_get_within x.here cpu at.0 at.1 in (
-      at.0,
-      at.1,
-      at.2 ∙ ap Some (exchanges_other cpu news r (λ same. omega (arith, same, less, past))),
-    )
+    let known = are cpu within in
+    let less = slice_get_within x.here cpu known.0 known.1 in
+    rw (exchanges_other cpu news r (λ same. omega (arith, same, less, past))) at known
 
 pub exchanged_back : (g : Setting) (news : List Record) (r : Record) (old new : ExchangesValue)
     (c was before : ℕ)
@@ -124,31 +99,21 @@ pub exchanged_back : (g : Setting) (news : List Record) (r : Record) (old new : 
     → new.chains ≡ old.chains → IsBefore old.chains was before → new.here ≡ set old.here c before
     → AreExchanged g (news ++ r ∷ []) old → AreExchanged g news new
 exchanged_back g news r old new c was before whose inside here same_chains led is are cpu within =
-    by_place (eqb cpu c) refl
-  where
-    by_place : (own : Bool) → eqb cpu c ≡ own
-        → (n : ℕ) × (slice_get new.here cpu ≡ Some n) × IsExchanged new.chains cpu news n
-    by_place true e =
-        let same : cpu ≡ c = eqb-true cpu c e in
-        let at = are cpu within in
-        let was_is : at.0 ≡ was = same_Some at.0 was (sym at.1 ∙ (ap (slice_get old.here) same ∙ here)) in (
-          before,
-          ap (λ (ns : List ℕ). slice_get ns cpu) is
-              ∙ (ap (slice_get (set old.here c before)) same ∙ get_set_here old.here c before inside),
-          ap (λ (chains : List (List Receipt)). slice_get chains before) same_chains
-              ∙ led (exchanges cpu news) (exchange_in r)
-              (ap (slice_get old.chains) (sym was_is) ∙ (at.2 ∙ ap Some
-              (exchanges_own cpu news r (whose ∙ sym same)))),
-        )
-    by_place false e =
-        let at = are cpu within in
-        let off : cpu ≡ c → ⊥ =
-        (λ same. let t : eqb cpu c ≡ true = eq-eqb cpu c same in let f : true ≡ false = sym t ∙ e in cc) in (
-          at.0,
-          ap (λ (ns : List ℕ). slice_get ns cpu) is ∙ get_set_other old.here c before cpu at.0 off at.1,
-          ap (λ (chains : List (List Receipt)). slice_get chains at.0) same_chains
-              ∙ (at.2 ∙ ap Some (exchanges_other cpu news r (λ same. off (same ∙ whose)))),
-        )
+    let known = are cpu within in
+    elim (cases_eq cpu c) [
+      | inl same ↦
+          let was_is : known.0 ≡ was = cc in (
+            before,
+            rw (is, same) (get_set_here old.here c before inside),
+            rw same_chains (led (exchanges cpu news) (exchange_in r)
+                (rw (was_is, exchanges_own cpu news r (whose ∙ sym same)) at known.2)),
+          )
+      | inr off ↦ (
+        known.0,
+        rw is (get_set_other old.here c before cpu known.0 off known.1),
+        rw same_chains (rw (exchanges_other cpu news r (λ same. off (same ∙ whose))) at known.2),
+      )
+    ]
 
 -- ---- the numbers are those of chains
 
@@ -158,9 +123,7 @@ among_kept old new here keep among k n h = keep_long old new n keep (among k n h
 
 pub among_set : (chains : List (List Receipt)) (here : List ℕ) (c number : ℕ) → number < length chains
     → AreAmong chains here → AreAmong chains (set here c number)
-among_set chains here c number less among k n h =
-    elim (get_set_cases here c number k n h)
-    [ inl at ↦ omega (arith, less, at.1) | inr off ↦ among k n off.1 ]
+among_set chains here c number less among k n h = grind (arith, get_set_cases)
 
 pub chained_within : (old new : List (List Receipt)) (x : Receipt) (below number : ℕ) → below < length old
     → IsChained old new x below number → number < length new
@@ -183,7 +146,4 @@ exchanged_begun g n many cpu within = (0, replicated n cpu (omega (arith, within
 
 pub exchange_same : (e : Exchange) (r : Record) → e.event ≡ r.event → e.reply ≡ r.reply
     → exchange_of e ≡ exchange_in r
-exchange_same e r event reply = ap (λ (v : Event). exchange v e.reply) event ∙ ap (exchange r.event) reply
-  where
-    exchange : Event → Reply → Receipt
-    exchange event reply = record { serial = 0; event = event; reply = reply }
+exchange_same e r event reply = rw (event, reply)

@@ -1,6 +1,6 @@
 -- A row or a text that is read from its buffer.
-use Rattle.std.proofs.Common.{◌≡◌, ◌⊎◌, inl, inr, ℕ, ◌<◌, ◌≤◌, List, length, get_or, Option, None, Some, slice_get, ap, sym, subst, ◌∙◌, arith}
-use Rattle.std.specs.List.{PartBy, slice_range}
+use Rattle.std.proofs.Common.{◌≡◌, ◌⊎◌, inl, inr, ℕ, ◌<◌, ◌≤◌, List, length, get_or, Option, None, Some, slice_get, arith}
+use Rattle.std.specs.List.{PartBy}
 use Rattle.std.specs.Option.{IfNone, IfSome}
 use Rattle.hp_states.specs.Texts.{AreTextsFrom, start_of, texts_from}
 use Rattle.hp_states.proofs.Joined.{LiesWithin, lies_within, text_at}
@@ -12,14 +12,9 @@ pub row_shown : {X R : Type 0} (now : R → List X) (o : Option R) (rows : List 
     → start ≡ start_of 0 shown place → PartBy now numbers start (get_or shown place 0) o
     → IfSome o (λ row. slice_get rows place ≡ Some (now row))
 row_shown now None rows place start all numbers ends shown rows_are all_is ends_are within start_is part = tt
-row_shown {X} now (Some row) rows place start all numbers ends shown rows_are all_is ends_are within
-    start_is part =
-    ap (λ (rs : List (List X)). slice_get rs place)
-    (sym (ap (λ (ns : List X). texts_from ns 0 shown) all_is
-    ∙ (ap (λ (es : List ℕ). texts_from all 0 es) ends_are ∙ rows_are)))
-    ∙ (text_at numbers 0 shown place within
-    ∙ ap Some (sym (part.0.2
-    ∙ ap (λ (n : ℕ). slice_range numbers n (get_or shown place 0)) start_is)))
+row_shown now (Some row) rows place start all numbers ends shown rows_are all_is ends_are within start_is
+    part =
+    rw (← rows_are, ← all_is, ← ends_are, part.0.2, start_is) (text_at numbers 0 shown place within)
 
 -- and there is such a part
 pub row_there : {X R : Type 0} (now : R → List X) (o : Option R) (count place start : ℕ)
@@ -35,8 +30,7 @@ row_there now None count place start all numbers ends shown are all_is ends_are 
     lies : LiesWithin (length numbers) start (get_or shown place 0)
     lies =
         rw (start_is, all_is)
-        (lies_within (length all) 0 shown place (subst (AreTextsFrom (length all) 0) (sym ends_are) are)
-        within)
+        (lies_within (length all) 0 shown place (rw ends_are are) within)
 
     outside : (get_or shown place 0 < start) ⊎ (length numbers < get_or shown place 0) → ⊥
     outside (inl back) = omega (arith, lies.ordered)

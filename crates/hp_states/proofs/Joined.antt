@@ -1,9 +1,9 @@
 -- Texts or rows that stand in one buffer, one after another.
-use Rattle.std.proofs.Common.{ℕ, zero, suc, ◌≡◌, ◌+◌, ◌-◌, ◌<◌, ◌≤◌, List, [], ◌∷◌, ◌++◌, OnErr, OnOk, IfOk, Result, Ok, Err, Some, length, get_or, take, drop, refl, sym, ◌∙◌, ap, subst, arith, slice_get}
+use Rattle.std.proofs.Common.{ℕ, zero, suc, ◌≡◌, ◌+◌, ◌<◌, ◌≤◌, List, [], ◌∷◌, ◌++◌, OnErr, OnOk, IfOk, Result, Ok, Err, Some, length, get_or, refl, ap, arith, slice_get}
 use Rattle.std.specs.Prelude.{slice_range}
 use Rattle.std.proofs.lemmas.List.{drop-append-le, drop_at, length-append, length-drop, take-append-le, take_all}
-use Rattle.std.proofs.lemmas.Option.{slice_get_within}
-use Rattle.hp_laws.proofs.Lists.{get_end, get_left}
+use Rattle.hp_laws.proofs.Lists.{get_end}
+use Rattle.hp_schedules.proofs.Counting.{get_longer}
 use Rattle.hp_states.specs.Codes.{KeepCodes}
 use Rattle.hp_states.specs.Texts.{AreTextsFrom, start_of, texts_from}
 
@@ -22,8 +22,7 @@ starts_next start (end ∷ ends) (suc number) low = starts_next end ends number 
 
 pub starts_after : (start : ℕ) (ends : List ℕ) (number before : ℕ) → number < length ends
     → number ≡ suc before → get_or ends before 0 ≡ start_of start ends number
-starts_after start ends number before low is =
-    sym (ap (start_of start ends) is ∙ starts_next start ends before (omega arith))
+starts_after start ends number before low is = rw (is, starts_next start ends before (omega arith))
 
 -- the text of a number
 pub text_at : {X : Type 0} (bytes : List X) (start : ℕ) (ends : List ℕ) (number : ℕ) → number < length ends
@@ -60,51 +59,36 @@ still_texts size more start (end ∷ ends) are = (are.0, still_texts size more e
 -- a text that was there
 same_text : {X : Type 0} (bytes more : List X) (start end : ℕ) → start ≤ end → end ≤ length bytes
     → slice_range (bytes ++ more) start end ≡ slice_range bytes start end
-same_text bytes more start end ordered within =
-    ap (take (end - start)) (drop-append-le start bytes more (omega arith))
-    ∙ take-append-le (end - start) (drop start bytes) more (omega (arith, length-drop start bytes))
+same_text bytes more start end ordered within = grind (arith, drop-append-le, take-append-le, length-drop)
 
 -- the text that comes
 new_text : {X : Type 0} (bytes more : List X)
     → slice_range (bytes ++ more) (length bytes) (length bytes + length more) ≡ more
-new_text bytes more =
-    ap (take (length bytes + length more - length bytes)) (drop_at bytes more (length bytes) refl)
-    ∙ take_all (length bytes + length more - length bytes) more (omega arith)
+new_text bytes more = grind (arith, drop_at, take_all)
 
 pub text_added : {X : Type 0} (bytes more : List X) (start : ℕ) (ends : List ℕ)
     → AreTextsFrom (length bytes) start ends
     → texts_from (bytes ++ more) start (ends ++ (length bytes + length more) ∷ [])
     ≡ texts_from bytes start ends ++ more ∷ []
-text_added {X} bytes more start [] are =
-    ap (λ (text : List X). text ∷ [])
-    (ap (λ (at : ℕ). slice_range (bytes ++ more) at (length bytes + length more)) are ∙ new_text bytes more)
-text_added {X} bytes more start (end ∷ ends) are =
-    ap (λ (text : List X). text ∷ texts_from (bytes ++ more) end (ends ++ (length bytes + length more) ∷ []))
-    (same_text bytes more start end are.0 (below (length bytes) end ends are.1))
-    ∙ ap (λ (texts : List (List X)). slice_range bytes start end ∷ texts)
-    (text_added bytes more end ends are.1)
+text_added bytes more start [] are =
+    rw (are, new_text bytes more)
+text_added bytes more start (end ∷ ends) are =
+    rw (
+      same_text bytes more start end are.0 (below (length bytes) end ends are.1),
+      text_added bytes more end ends are.1,
+    )
 
--- the earlier ones keep their numbers
-pub keep_more : (texts : List (List ℕ)) (more : List ℕ) → KeepCodes texts (texts ++ more ∷ [])
-keep_more texts more n c is = get_left texts (more ∷ []) n (slice_get_within texts n c is) ∙ is
-
--- and it has the next one
-pub number_more : {X : Type 0} (texts : List (List X)) (more : List X) (n : ℕ) → n ≡ length texts
-    → slice_get (texts ++ more ∷ []) n ≡ Some more
-number_more texts more n is = ap (slice_get (texts ++ more ∷ [])) is ∙ get_end texts more
-
--- both of them for an addition that may be out of memory, and then changes nothing
+-- the earlier texts keep their numbers, also if the addition is out of memory and changes nothing
 pub keep_added : {E : Type 0} (r : Result ℕ E) (old new : List (List ℕ)) (text : List ℕ)
     → OnOk r (new ≡ old ++ text ∷ []) → OnErr r (new ≡ old) → KeepCodes old new
-keep_added (Ok n) old new text more same = subst (KeepCodes old) (sym more) (keep_more old text)
-keep_added (Err e) old new text more same =
-    λ n c is. ap (λ (texts : List (List ℕ)). slice_get texts n) same ∙ is
+keep_added (Ok n) old new text more same k c is = rw more (get_longer old _ k c is)
+keep_added (Err e) old new text more same k c is = rw same is
 
+-- the new text has the next number
 pub number_added : {E : Type 0} (r : Result ℕ E) (old new : List (List ℕ)) (text : List ℕ)
     → OnOk r (new ≡ old ++ text ∷ []) → IfOk r (λ n. n ≡ length old)
     → IfOk r (λ n. slice_get new n ≡ Some text)
-number_added (Ok n) old new text more at =
-    ap (λ (texts : List (List ℕ)). slice_get texts n) more ∙ number_more old text n at
+number_added (Ok n) old new text more at = rw (more, at) (get_end old text)
 number_added (Err e) old new text more at = tt
 
 -- both of a buffer and its ends, after a text more
@@ -112,19 +96,10 @@ pub texts_on : {X : Type 0} (bytes more bytes' : List X) (ends ends' : List ℕ)
     → AreTextsFrom (length bytes) 0 ends
     → bytes' ≡ bytes ++ more → ends' ≡ ends ++ at ∷ [] → at ≡ length bytes'
     → AreTextsFrom (length bytes') 0 ends'
-texts_on bytes more bytes' ends ends' at are b e is =
-    let size : length bytes' ≡ length bytes + length more = ap length b ∙ length-append bytes more in
-    subst (AreTextsFrom (length bytes') 0) (sym e)
-    (subst (λ (n : ℕ). AreTextsFrom (length bytes') 0 (ends ++ n ∷ [])) (sym is)
-    (subst (λ (n : ℕ). AreTextsFrom n 0 (ends ++ n ∷ [])) (sym size)
-    (still_texts (length bytes) (length more) 0 ends are)))
+texts_on bytes more bytes' ends ends' at are b e is = grind (arith, length-append, still_texts)
 
 pub texts_are : {X : Type 0} (bytes more bytes' : List X) (ends ends' : List ℕ) (at : ℕ)
     → AreTextsFrom (length bytes) 0 ends
     → bytes' ≡ bytes ++ more → ends' ≡ ends ++ at ∷ [] → at ≡ length bytes'
     → texts_from bytes' 0 ends' ≡ texts_from bytes 0 ends ++ more ∷ []
-texts_are {X} bytes more bytes' ends ends' at are b e is =
-    let place : at ≡ length bytes + length more = is ∙ (ap length b ∙ length-append bytes more) in
-    ap (λ (bs : List X). texts_from bs 0 ends') b
-    ∙ (ap (texts_from (bytes ++ more) 0) (e ∙ ap (λ (n : ℕ). ends ++ n ∷ []) place)
-    ∙ text_added bytes more 0 ends are)
+texts_are bytes more bytes' ends ends' at are b e is = grind (arith, length-append, text_added)

@@ -1,14 +1,13 @@
 -- What the walk makes of a place that goes on like one that was walked.
-use Rattle.std.proofs.Common.{◌≡◌, ℕ, ◌+◌, ◌<◌, ◌≤◌, List, [], ◌++◌, length, get_or, Some, slice_get, refl, sym, subst, ◌∙◌, arith, inl, inr}
-use Rattle.std.specs.Prelude.{◌⊎◌, sum_by}
+use Rattle.std.proofs.Common.{◌≡◌, ℕ, ◌+◌, ◌≤◌, List, ◌++◌, length, get_or, Some, slice_get, refl, sym, ◌∙◌, arith, inl, inr}
+use Rattle.std.specs.Prelude.{◌⊎◌}
 use Rattle.std.proofs.lemmas.Bool.{cases_lt}
-use Rattle.std.proofs.lemmas.List.{append-nil}
 use Rattle.std.proofs.lemmas.Option.{slice_get_within}
 use Rattle.hp_laws.proofs.Lists.{get_some}
 use Rattle.hp_units.specs.declared.replies.Record.{Record}
 use Rattle.hp_schedules.specs.Alike.{AreAlike, AreMergeable}
 use Rattle.hp_schedules.specs.Ends.{AreCounted}
-use Rattle.hp_schedules.specs.Orders.{HasCount, IsBefore, IsFirst}
+use Rattle.hp_schedules.specs.Orders.{HasCount, IsFirst}
 use Rattle.hp_schedules.specs.Outcomes.{OutcomeValue}
 use Rattle.hp_schedules.specs.Parts.{AllOfPart, PartValue}
 use Rattle.hp_schedules.specs.Schedules.{EndsWith, Setting, plays, schedule_of}
@@ -18,24 +17,14 @@ use Rattle.hp_states.specs.Walks.{BeforeInPart, ThroughInPart}
 use Rattle.hp_schedules.specs.declared.tally.Ending.{Ending}
 use Rattle.hp_schedules.proofs.Alike.{ends_alike}
 use Rattle.hp_schedules.proofs.Counting.{either_listed, none_listed, same_count}
-use Rattle.hp_states.proofs.Grown.{counts_add_up, one_outcome}
+use Rattle.hp_states.proofs.Grown.{all_counted, one_outcome, was_end}
 use Rattle.hp_schedules.proofs.Apart.{difference, moved}
-use Rattle.hp_schedules.proofs.Regions.{before_longer, not_before_longer}
+use Rattle.hp_schedules.proofs.Regions.{before_longer, not_before_itself}
 
 -- ---- a place that goes on like another
 
 pub turned : (g : Setting) (h k : List Record) → AreAlike g h k → AreAlike g k h
-turned g h k alike = record {
-  calls = sym alike.calls;
-  exchanged = λ cpu within. sym (alike.exchanged cpu within);
-  begun = λ cpu within. sym (alike.begun cpu within);
-  nets = record {
-    openings = alike.nets.openings;
-    first_open = alike.nets.second_open;
-    second_open = alike.nets.first_open;
-    state = sym alike.nets.state;
-  };
-}
+turned g h k alike = grind (arith)
 
 -- as many schedules go on from there to each end
 moved_count : (g : Setting) (p q : List ℕ) (h k : List Record) (x : OutcomeValue) (n : ℕ)
@@ -51,22 +40,14 @@ moved_count g p q h k x n all first second alike counted =
 apart_regions : (g : Setting) (part : PartValue) (q s : List ℕ) (x y : OutcomeValue)
     → BeforeInPart g part q s x → GoesOn g q y s → ⊥
 apart_regions g part q s x y before on =
-    not_before_longer (q ++ on.0.0) []
-    (subst (λ (t : List ℕ). IsBefore (q ++ on.0.0) t) (sym (append-nil (q ++ on.0.0))) here)
-  where
-    longer : IsBefore s (q ++ on.0.0)
-    longer = before_longer s q on.0.0 before.0
-
-    here : IsBefore (q ++ on.0.0) (q ++ on.0.0)
-    here = subst (λ (t : List ℕ). IsBefore t (q ++ on.0.0)) on.0.1 longer
+    not_before_itself (q ++ on.0.0) (rw on.0.1 at (before_longer s q on.0.0 before.0))
 
 -- where all that go on from a place belong to a part, those of it up to the last continuation are those
 -- before the place, and those that go on from it
 through_to : (g : Setting) (part : PartValue) (q s : List ℕ) (x : OutcomeValue)
     → AllOfPart (length g.scripts) part q → BeforeInPart g part q s x ⊎ GoesOn g q x s
     → ThroughInPart g part q s x
-through_to g part q s x all h =
-    elim h [ inl b ↦ (inl b.0, b.1) | inr on ↦ (inr on.0, (on.1, all s on.0)) ]
+through_to g part q s x all h = grind (arith)
 
 through_from : (g : Setting) (part : PartValue) (q s : List ℕ) (x : OutcomeValue)
     → ThroughInPart g part q s x → BeforeInPart g part q s x ⊎ GoesOn g q x s
@@ -80,7 +61,30 @@ pub merged : (g : Setting) (part : PartValue) (q : List ℕ) (k : List Record) (
     → AreCounted (BeforeInPart g part q) old → AddsCounts old seen.counts new
     → AreCounted (ThroughInPart g part q) new
 merged g part q k seen old new within all second alike is ok adds =
-    record { counts = counts; firsts = firsts; every = every; apart = apart; total = total }
+    all_counted (ThroughInPart g part q) new (λ s x y a b. one_outcome g s x y a.1.0 b.1.0)
+    (λ i f h. let e = was i f h in
+    simp (e.4, e.2)
+    (same_count (λ s. BeforeInPart g part q s e.0.outcome ⊎ GoesOn g q e.0.outcome s)
+    (λ s. ThroughInPart g part q s e.0.outcome) (e.0.count + get_or seen.counts i 0)
+    (λ s. through_to g part q s e.0.outcome within) (λ s. through_from g part q s e.0.outcome)
+    (either_listed (λ s. BeforeInPart g part q s e.0.outcome) (GoesOn g q e.0.outcome) e.0.count
+    (get_or seen.counts i 0) (λ s. apart_regions g part q s e.0.outcome e.0.outcome) (ok.counts i e.0 e.1)
+    (moved_count g place q seen.news k e.0.outcome (get_or seen.counts i 0) all is.played second alike
+    (is.counted i e.0 e.1)))))
+    (λ i f h. let e = was i f h in
+    simp (e.3, e.2) (first_of e.0.outcome e.0.first.items (ok.firsts i e.0 e.1)))
+    (λ s x h. elim (through_from g part q s x h) [
+      | inl b ↦ shown x (ok.every s x b)
+      | inr on ↦
+          shown x (is.every (place ++ on.0.0) x (
+            (on.0.0, refl),
+            ends_alike g q place on.0.0 k seen.news x
+                all second is.played (turned g seen.news k alike) (rw on.0.1 at on.1),
+          ))
+    ])
+    (λ i j e f h m same. let a = was i e h in
+    let b = was j f m in
+    ok.apart i j a.0 b.0 a.1 b.1 (sym a.2 ∙ (same ∙ b.2)))
   where
     place : List ℕ
     place = schedule_of seen.news
@@ -88,34 +92,7 @@ merged g part q k seen old new within all second alike is ok adds =
     was : (i : ℕ) (f : Ending) → slice_get new i ≡ Some f
         → (e : Ending) × (slice_get old i ≡ Some e) × (f.outcome ≡ e.outcome)
         × (f.first.items ≡ e.first.items) × (f.count ≡ e.count + get_or seen.counts i 0)
-    was i f h =
-        let less : i < length old = (let l = slice_get_within new i f h in omega (arith, l, adds.as_many)) in
-        let e = get_some old i less in
-        let m = adds.more i e.0 f e.1 h in
-        (e.0, e.1, m.0, m.1, m.2)
-
-    now : (i : ℕ) (e : Ending) → slice_get old i ≡ Some e
-        → (f : Ending) × (slice_get new i ≡ Some f) × (f.outcome ≡ e.outcome)
-    now i e h =
-        let less : i < length new = (let l = slice_get_within old i e h in omega (arith, l, adds.as_many)) in
-        let f = get_some new i less in
-        (f.0, f.1, (adds.more i e f.0 h f.1).0)
-
-    counts : (i : ℕ) (f : Ending) → slice_get new i ≡ Some f
-        → HasCount (λ s. ThroughInPart g part q s f.outcome) f.count
-    counts i f h =
-        let e = was i f h in
-        subst (HasCount (λ s. ThroughInPart g part q s f.outcome)) (sym e.4)
-        (subst (λ (x : OutcomeValue). HasCount (λ s. ThroughInPart g part q s x)
-        (e.0.count + get_or seen.counts i 0))
-        (sym e.2)
-        (same_count (λ s. BeforeInPart g part q s e.0.outcome ⊎ GoesOn g q e.0.outcome s)
-        (λ s. ThroughInPart g part q s e.0.outcome) (e.0.count + get_or seen.counts i 0)
-        (λ s. through_to g part q s e.0.outcome within) (λ s. through_from g part q s e.0.outcome)
-        (either_listed (λ s. BeforeInPart g part q s e.0.outcome) (GoesOn g q e.0.outcome) e.0.count
-        (get_or seen.counts i 0) (λ s. apart_regions g part q s e.0.outcome e.0.outcome) (ok.counts i e.0 e.1)
-        (moved_count g place q seen.news k e.0.outcome (get_or seen.counts i 0) all is.played second alike
-        (is.counted i e.0 e.1)))))
+    was i f h = was_end old new seen.counts adds i f h
 
     first_of : (x : OutcomeValue) (f : List ℕ) → IsFirst (λ s. BeforeInPart g part q s x) f
         → IsFirst (λ s. ThroughInPart g part q s x) f
@@ -124,47 +101,16 @@ merged g part q k seen old new within all second alike is ok adds =
       earliest =
           λ t h. elim (through_from g part q t x h) [
             | inl b ↦ first.earliest t b
-            | inr on ↦ inr (subst (IsBefore f) (sym on.0.1) (before_longer f q on.0.0 first.holds.0))
+            | inr on ↦ inr (rw on.0.1 (before_longer f q on.0.0 first.holds.0))
           ];
     }
 
-    firsts : (i : ℕ) (f : Ending) → slice_get new i ≡ Some f
-        → IsFirst (λ s. ThroughInPart g part q s f.outcome) f.first.items
-    firsts i f h =
-        let e = was i f h in
-        subst (IsFirst (λ s. ThroughInPart g part q s f.outcome)) (sym e.3)
-        (subst (λ (x : OutcomeValue). IsFirst (λ s. ThroughInPart g part q s x) e.0.first.items) (sym e.2)
-        (first_of e.0.outcome e.0.first.items (ok.firsts i e.0 e.1)))
-
     shown : (x : OutcomeValue) → (i : ℕ) × (e : Ending) × (slice_get old i ≡ Some e) × (e.outcome ≡ x)
         → (i : ℕ) × (f : Ending) × (slice_get new i ≡ Some f) × (f.outcome ≡ x)
-    shown x at = let f = now at.0 at.1 at.2 in (at.0, f.0, f.1, f.2 ∙ at.3)
-
-    every : (s : List ℕ) (x : OutcomeValue) → ThroughInPart g part q s x
-        → (i : ℕ) × (f : Ending) × (slice_get new i ≡ Some f) × (f.outcome ≡ x)
-    every s x h =
-        elim (through_from g part q s x h) [
-          | inl b ↦ shown x (ok.every s x b)
-          | inr on ↦
-              shown x (is.every (place ++ on.0.0) x (
-                (on.0.0, refl),
-                ends_alike g q place on.0.0 k seen.news x
-                    all second is.played (turned g seen.news k alike)
-                    (subst (λ (t : List ℕ). EndsWith g t x) on.0.1 on.1),
-              ))
-        ]
-
-    apart : (i j : ℕ) (e f : Ending) → slice_get new i ≡ Some e → slice_get new j ≡ Some f
-        → e.outcome ≡ f.outcome → i ≡ j
-    apart i j e f h m same =
-        let a = was i e h in
-        let b = was j f m in
-        ok.apart i j a.0 b.0 a.1 b.1 (sym a.2 ∙ (same ∙ b.2))
-
-    total : HasCount (λ s. (x : OutcomeValue) × ThroughInPart g part q s x) (sum_by (λ e. e.count) new)
-    total =
-        counts_add_up (ThroughInPart g part q) new (λ s x y a b. one_outcome g s x y a.1.0 b.1.0) counts every
-        apart
+    shown x at =
+        let less = slice_get_within old at.0 at.1 at.2 in
+        let f = get_some new at.0 (omega (arith, less, adds.as_many)) in
+        (at.0, f.0, f.1, (adds.more at.0 at.1 f.0 at.2 f.1).0 ∙ at.3)
 
 -- ---- what is kept of a place that was walked
 
@@ -181,19 +127,22 @@ pub walked_seen : (g : Setting) (part : PartValue) (seen : SeenValue) (old new :
 walked_seen g part seen old new within played few more all grow before through = record {
   played = played;
   few = few;
-  counted = counted;
+  counted =
+      λ i f h. elim (cases_lt i (length old)) [
+        | inl less ↦ (let e = get_some old i less in
+            left f.outcome e.0.count f.count (get_or seen.counts i 0) (more i e.0 f e.1 h)
+            (rw (grow.kept i e.0 f e.1 h).0 (before.counts i e.0 e.1)) (through.counts i f h))
+        | inr past ↦ (let none : 0 + get_or seen.counts i 0 ≡ f.count = omega (arith, all i f h past) in
+            left f.outcome 0 f.count (get_or seen.counts i 0) none
+            (none_listed (λ s. BeforeInPart g part p s f.outcome)
+            (λ s b. let at = before.every s f.outcome b in grow.fresh i f h past at.0 at.1 at.2 at.3))
+            (through.counts i f h))
+      ];
   every = λ s x on. through.every s x (inr on.0, (on.1, within s on.0));
 }
   where
     p : List ℕ
     p = schedule_of seen.news
-
-    both : (x : OutcomeValue) (t : ℕ) → HasCount (λ s. ThroughInPart g part p s x) t
-        → HasCount (λ s. BeforeInPart g part p s x ⊎ GoesOn g p x s) t
-    both x t counted =
-        same_count (λ s. ThroughInPart g part p s x) (λ s. BeforeInPart g part p s x ⊎ GoesOn g p x s) t
-        (λ s. through_from g part p s x)
-        (λ s. through_to g part p s x within) counted
 
     left : (x : OutcomeValue) (m t c : ℕ) → m + c ≡ t → HasCount (λ s. BeforeInPart g part p s x) m
         → HasCount (λ s. ThroughInPart g part p s x) t → HasCount (GoesOn g p x) c
@@ -201,24 +150,7 @@ walked_seen g part seen old new within played few more all grow before through =
         let rest =
         difference (λ s. BeforeInPart g part p s x) (GoesOn g p x) m t
         (λ s. apart_regions g part p s x x) some
-        (both x t whole) in
+        (same_count (λ s. ThroughInPart g part p s x) (λ s. BeforeInPart g part p s x ⊎ GoesOn g p x s) t
+        (λ s. through_from g part p s x) (λ s. through_to g part p s x within) whole) in
         let same : rest.0 ≡ c = omega (arith, rest.2, sum) in
-        subst (HasCount (GoesOn g p x)) same rest.1
-
-    counted : (i : ℕ) (f : Ending) → slice_get new i ≡ Some f
-        → HasCount (GoesOn g p f.outcome) (get_or seen.counts i 0)
-    counted i f h =
-        elim (cases_lt i (length old)) [
-          | inl less ↦ (let e = get_some old i less in
-              left f.outcome e.0.count f.count (get_or seen.counts i 0) (more i e.0 f e.1 h) (subst
-              (λ (x : OutcomeValue). HasCount (λ s. BeforeInPart g part p s x) e.0.count)
-              (sym (grow.kept i e.0 f e.1 h).0) (before.counts i e.0 e.1)) (through.counts i f h))
-          | inr past ↦
-              left f.outcome 0 f.count (get_or seen.counts i 0) (omega (
-                arith,
-                all i f h
-                    past,
-              )) (none_listed (λ s. BeforeInPart g part p s f.outcome)
-              (λ s b. let at = before.every s f.outcome
-              b in grow.fresh i f h past at.0 at.1 at.2 at.3)) (through.counts i f h)
-        ]
+        rw same at rest.1

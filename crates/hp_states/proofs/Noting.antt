@@ -1,5 +1,5 @@
 -- The turns of a place: what is known after each, and when a schedule ends there.
-use Rattle.std.proofs.Common.{◌≡◌, ℕ, ◌+◌, ◌<◌, ◌≤◌, Bool, true, false, List, [], ◌∷◌, ◌++◌, length, Some, None, refl, sym, subst, arith, inl, inr}
+use Rattle.std.proofs.Common.{◌≡◌, ℕ, ◌+◌, Bool, true, false, List, [], ◌∷◌, ◌++◌, length, Some, None, refl, arith, inl, inr}
 use Rattle.std.proofs.lemmas.Bool.{cases_lt}
 use Rattle.hp_units.specs.declared.replies.Record.{Record}
 use Rattle.hp_schedules.specs.Parts.{IsOfPart, PartValue}
@@ -7,7 +7,7 @@ use Rattle.hp_schedules.specs.Schedules.{Setting, next_call, outcome_after, play
 use Rattle.hp_schedules.specs.declared.tally.Ending.{Ending}
 use Rattle.hp_states.specs.Places.{standing}
 use Rattle.hp_states.specs.Seen.{Grow}
-use Rattle.hp_states.specs.Walks.{IsEndHere, IsEndNoted, IsNotedAtEnd, IsOverBelow, IsPartWalkedBefore, IsPartWalkedThrough}
+use Rattle.hp_states.specs.Walks.{IsEndHere, IsNotedAtEnd, IsOverBelow, IsPartWalkedBefore, IsPartWalkedThrough}
 use Rattle.hp_states.proofs.Grown.{grow_none, grow_noted}
 use Rattle.hp_states.proofs.Rooms.{done_up, ordered_noted}
 use Rattle.hp_states.proofs.Walks.{over_all, walk_apart, walk_here, walk_notes, walk_up}
@@ -18,11 +18,8 @@ pub over_next : (g : Setting) (news : List Record) (cpu : ℕ) (is_over : Bool) 
 over_next g news cpu true over before =
     λ k less. elim (cases_lt k cpu) [
       | inl under ↦ before k under
-      | inr at ↦ subst (λ (n : ℕ). next_call g n news ≡ None) (same k less at) over
+      | inr past ↦ (let same : k ≡ cpu = omega arith in rw same over)
     ]
-  where
-    same : (k : ℕ) → k < cpu + 1 → cpu ≤ k → cpu ≡ k
-    same k less at = omega arith
 over_next g news cpu false over before = before
 
 -- ---- after the last of them
@@ -33,22 +30,15 @@ pub end_here : (g : Setting) (part : PartValue) (news : List Record) (n : ℕ) (
     → (is_of ≡ true → IsOfPart n part (schedule_of news))
     → (IsOfPart n part (schedule_of news) → is_of ≡ true) → IsEndHere g part news is_of
 end_here g part news n is_over true all none over of from = (
-  subst (λ (k : ℕ). IsOverBelow g news k true) all (subst (IsOverBelow g news n) none over),
-  subst (λ (k : ℕ). IsOfPart k part (schedule_of news)) all (of refl),
+  rw (none, all) at over,
+  rw all at (of refl),
 )
 end_here g part news n is_over false all none over of from =
-    inr (
-      subst (λ (k : ℕ). IsOverBelow g news k true) all (subst (IsOverBelow g news n) none over),
-      λ apart.
-          let told : false ≡ true =
-          from (subst (λ (k : ℕ). IsOfPart k part (schedule_of news)) (sym all) apart) in
-          cc,
-    )
+    inr (rw (none, all) at over, λ apart. let told : false ≡ true = from (rw all apart) in cc)
 
 pub no_end_here : (g : Setting) (part : PartValue) (news : List Record) (n : ℕ) (is_over : Bool)
     → n ≡ length g.scripts → is_over ≡ false → IsOverBelow g news n is_over → IsEndHere g part news false
-no_end_here g part news n is_over all some over =
-    inl (subst (λ (k : ℕ). IsOverBelow g news k false) all (subst (IsOverBelow g news n) some over))
+no_end_here g part news n is_over all some over = grind (arith)
 
 -- all that go on from there were walked, once it is noted
 pub walked_on : (g : Setting) (part : PartValue) (news : List Record) (n : ℕ) (is_end : Bool)
@@ -59,20 +49,16 @@ pub walked_on : (g : Setting) (part : PartValue) (news : List Record) (n : ℕ) 
     → IsPartWalkedThrough g part (schedule_of news) new
 unfolding outcome_after
 walked_on g part news n true ends new all played end done adds =
-    let before : IsPartWalkedBefore g part (schedule_of news ++ length g.scripts ∷ []) ends =
-    subst (λ (k : ℕ). IsPartWalkedBefore g part (schedule_of news ++ k ∷ []) ends) all done in
-    let noted : IsEndNoted (length g.scripts) (standing g news) ends new =
-    subst (λ (k : ℕ). IsEndNoted k (standing g news) ends new) all adds in
+    let before = rw all at done in
+    let noted = rw all at adds in
     done_up g part (schedule_of news) news ends new played before
     (walk_notes g part (schedule_of news) news ends new played (over_all g news end.0) end.1 before.counted
     noted)
     (ordered_noted g part (schedule_of news) ends new _ before.ordered
     (walk_here g part (schedule_of news) news ends played (over_all g news end.0) before.counted) noted)
 walked_on g part news n false ends new all played end done same =
-    let before : IsPartWalkedBefore g part (schedule_of news ++ length g.scripts ∷ []) ends =
-    subst (λ (k : ℕ). IsPartWalkedBefore g part (schedule_of news ++ k ∷ []) ends) all done in
-    subst (IsPartWalkedThrough g part (schedule_of news)) (sym same)
-    (elim end [
+    let before = rw all at done in
+    rw same (elim end [
       | inl asks ↦ done_up g part (schedule_of news) news ends ends played before
           (walk_up g part (schedule_of news) news asks.0 asks.1 ends played asks.2 before.counted)
           before.ordered
@@ -84,4 +70,4 @@ walked_on g part news n false ends new all played end done same =
 pub noted_grows : (n : ℕ) (news : List Record) (g : Setting) (is_end : Bool) (ends new : List Ending)
     → IsNotedAtEnd is_end n (standing g news) ends new → Grow ends new
 noted_grows n news g true ends new adds = grow_noted ends new _ _ adds
-noted_grows n news g false ends new same = subst (Grow ends) (sym same) (grow_none ends)
+noted_grows n news g false ends new same = rw same (grow_none ends)

@@ -1,8 +1,9 @@
 -- What numbers of openings mean.
-use Rattle.std.proofs.Common.{◌≡◌, ℕ, ◌+◌, ◌<◌, Bool, true, false, cond, List, [], ◌∷◌, ◌++◌, length, map, eqb, IfSome, Option, Some, None, slice_get, refl, ap, sym, subst, ◌∙◌}
+use Rattle.std.proofs.Common.{◌≡◌, ℕ, ◌+◌, ◌<◌, true, false, List, [], ◌∷◌, ◌++◌, length, map, eqb, IfSome, Option, Some, None, slice_get, refl, ap, arith, inl, inr}
+use Rattle.std.proofs.lemmas.Bool.{cases_Bool}
 use Rattle.std.proofs.lemmas.List.{append_assoc}
-use Rattle.std.proofs.lemmas.Option.{same_Some, slice_get_within}
-use Rattle.hp_states.specs.Codes.{IsCoded, KeepCodes}
+use Rattle.std.proofs.lemmas.Option.{slice_get_within}
+use Rattle.hp_states.specs.Codes.{KeepCodes}
 use Rattle.hp_states.proofs.Coded.{coded_is_kept, coded_states_are_same}
 use Rattle.hp_units.specs.History.{effect_of, net_of, run, value_of}
 use Rattle.hp_units.specs.LayoutParts.{LayoutParts}
@@ -28,64 +29,40 @@ use Rattle.hp_schedules.proofs.Openings.{changed, openings_after}
 
 pub named_kept : (l : LayoutParts) (old new : List (List ℕ)) (ns : List NumberedOpening) (os : List Opening)
     → KeepCodes old new → AreNamed l old ns os → AreNamed l new ns os
-named_kept l old new [] [] keep named = tt
-named_kept l old new [] (o ∷ os) keep named = named
-named_kept l old new (n ∷ ns) [] keep named = named
 named_kept l old new (n ∷ ns) (o ∷ os) keep named = (
   named.0,
   coded_is_kept l old new n.memory o.memory keep named.1,
   named_kept l old new ns os keep named.2,
 )
+named_kept l old new _ _ keep named = named
 
 -- they name only these
 pub named_once : (l : LayoutParts) (codes : List (List ℕ)) (ns : List NumberedOpening) (os ps : List Opening)
     → AreNamed l codes ns os → AreNamed l codes ns ps → os ≡ ps
 named_once l codes [] [] [] first second = refl
-named_once l codes [] [] (p ∷ ps) first second = absurd second
-named_once l codes [] (o ∷ os) ps first second = absurd first
-named_once l codes (n ∷ ns) [] ps first second = absurd first
-named_once l codes (n ∷ ns) (o ∷ os) [] first second = absurd second
 named_once l codes (n ∷ ns) (o ∷ os) (p ∷ ps) first second =
-    ap (λ (m : ℕ). opening m o.memory ∷ os) (sym first.0 ∙ second.0)
-    ∙ (ap (λ (s : Memory). opening p.op s ∷ os)
-    (coded_states_are_same l codes n.memory o.memory p.memory first.1 second.1)
-    ∙ ap (λ (rest : List Opening). p ∷ rest) (named_once l codes ns os ps first.2 second.2))
-  where
-    opening : ℕ → Memory → Opening
-    opening op s = record { op = op; memory = s }
+    grind (arith, coded_states_are_same, named_once l codes ns os ps first.2 second.2)
+named_once l codes _ _ _ first second = absurd (search)
 
 -- what a call leaves of them
 named_work : (l : LayoutParts) (codes : List (List ℕ)) (op : ℕ) (ns : List NumberedOpening)
     (os : List Opening)
     → AreNamed l codes ns os → AreNamed l codes (after_work op ns) (after_work op os)
 named_work l codes op [] [] named = tt
-named_work l codes op [] (o ∷ os) named = absurd named
-named_work l codes op (n ∷ ns) [] named = absurd named
 named_work l codes op (n ∷ ns) (o ∷ os) named =
-    by_first (eqb o.op op) (eqb n.op op) (ap (λ (m : ℕ). eqb m op) named.0)
-  where
-    by_first : (first second : Bool) → second ≡ first
-        → AreNamed l codes (cond second (n ∷ ns) []) (cond first (o ∷ os) [])
-    by_first true true same = named
-    by_first false false same = tt
-    by_first true false same = absurd cc
-    by_first false true same = absurd cc
+    elim (cases_Bool (eqb o.op op)) [
+      | inl same ↦ (let also : eqb n.op op ≡ true = cc in rw (also, same) named)
+      | inr other ↦ (let also : eqb n.op op ≡ false = cc in rw (also, other) tt)
+    ]
+named_work l codes op _ _ named = absurd named
 
 named_cancel : (l : LayoutParts) (codes : List (List ℕ)) (op : ℕ) (ns : List NumberedOpening)
     (os : List Opening)
     → AreNamed l codes ns os → AreNamed l codes (after_cancel op ns) (after_cancel op os)
 named_cancel l codes op [] [] named = tt
-named_cancel l codes op [] (o ∷ os) named = absurd named
-named_cancel l codes op (n ∷ ns) [] named = absurd named
 named_cancel l codes op (n ∷ ns) (o ∷ os) named =
-    by_first (eqb o.op op) (eqb n.op op) (ap (λ (m : ℕ). eqb m op) named.0)
-  where
-    by_first : (first second : Bool) → second ≡ first
-        → AreNamed l codes (cond second ns []) (cond first os [])
-    by_first true true same = named.2
-    by_first false false same = tt
-    by_first true false same = absurd cc
-    by_first false true same = absurd cc
+    rw named.0 (elim (cases_Bool (eqb o.op op)) [ inl same ↦ rw same named.2 | inr other ↦ rw other tt ])
+named_cancel l codes op _ _ named = absurd named
 
 -- ---- a number that is made, and one that is found
 
@@ -103,8 +80,7 @@ pub made_empty : (f : List NumberedOpening → List NumberedOpening) (lists : Li
     → f [] ≡ [] → was ≡ Some n → ((os : List NumberedOpening) → slice_get lists n ≡ Some os → os ≡ [])
     → slice_get lists m ≡ Some [] → IsMadeBy f lists was (Some m)
 made_empty f lists was n m none is empty here =
-    subst (λ (o : Option ℕ). IsMadeBy f lists o (Some m)) (sym is)
-    (λ os h. (m, refl, here ∙ ap Some (sym (ap f (empty os h) ∙ none))))
+    rw is (λ os h. (m, refl, rw (empty os h, none) here))
 
 -- else the list is that of the entry
 made_first : (f : List NumberedOpening → List NumberedOpening) (lists : List (List NumberedOpening))
@@ -113,131 +89,103 @@ made_first : (f : List NumberedOpening → List NumberedOpening) (lists : List (
     → was ≡ Some n → (at : IsEntryOf lists n e)
     → slice_get lists m ≡ Some (f (opening_of e ∷ at.0))
     → IsMadeBy f lists was (Some m)
-made_first f lists was n m e is at here =
-    subst (λ (o : Option ℕ). IsMadeBy f lists o (Some m)) (sym is)
-    (λ os h. (
-      m,
-      refl,
-      here ∙ ap (λ (all : List NumberedOpening). Some (f all))
-          (same_Some (opening_of e ∷ at.0) os (sym at.2 ∙ h)),
-    ))
+made_first f lists was n m e is made here =
+    rw is (λ os h. let same : opening_of e ∷ made.0 ≡ os = cc in (m, refl, rw (← same) here))
 
 pub same_work : (lists : List (List NumberedOpening)) (was : Option ℕ) (n op : ℕ) (e : Entry)
     → was ≡ Some n → IsEntryOf lists n e → eqb e.op op ≡ true → IsMadeBy (after_work op) lists was (Some n)
-same_work lists was n op e is at same =
-    made_first (after_work op) lists was n n e is at
-    (at.2 ∙ ap (λ (b : Bool). Some (cond b (opening_of e ∷ at.0) [])) (sym same))
+same_work lists was n op e is made same = made_first (after_work op) lists was n n e is made (rw same made.2)
 
 pub other_work : (lists : List (List NumberedOpening)) (was : Option ℕ) (n m op : ℕ) (e : Entry)
     → was ≡ Some n → IsEntryOf lists n e → eqb e.op op ≡ false → slice_get lists m ≡ Some []
     → IsMadeBy (after_work op) lists was (Some m)
-other_work lists was n m op e is at differ here =
-    made_first (after_work op) lists was n m e is at
-    (here
-    ∙ ap (λ (b : Bool). Some (cond b (opening_of e ∷ at.0) [])) (sym differ))
+other_work lists was n m op e is made differ here =
+    made_first (after_work op) lists was n m e is made (rw differ here)
 
 pub same_cancel : (lists : List (List NumberedOpening)) (was : Option ℕ) (n op : ℕ) (e : Entry)
     → was ≡ Some n → IsEntryOf lists n e → eqb e.op op ≡ true
     → IsMadeBy (after_cancel op) lists was (Some e.below)
-same_cancel lists was n op e is at same =
-    made_first (after_cancel op) lists was n e.below e is at
-    (at.1 ∙ ap (λ (b : Bool). Some (cond b at.0 [])) (sym same))
+same_cancel lists was n op e is made same =
+    made_first (after_cancel op) lists was n e.below e is made (rw same made.1)
 
 pub other_cancel : (lists : List (List NumberedOpening)) (was : Option ℕ) (n m op : ℕ) (e : Entry)
     → was ≡ Some n → IsEntryOf lists n e → eqb e.op op ≡ false → slice_get lists m ≡ Some []
     → IsMadeBy (after_cancel op) lists was (Some m)
-other_cancel lists was n m op e is at differ here =
-    made_first (after_cancel op) lists was n m e is at
-    (here ∙ ap (λ (b : Bool). Some (cond b at.0 [])) (sym differ))
+other_cancel lists was n m op e is made differ here =
+    made_first (after_cancel op) lists was n m e is made (rw differ here)
 
--- one record more, where the number means what it makes
-numbered_on : (p : ℕ → ℕ) (g : Setting) (codes : List (List ℕ)) (lists : List (List NumberedOpening))
-    (news : List Record) (r : Record) (ns : List NumberedOpening) (os : List Opening) (n : ℕ)
-    → leaves_steps (effect_of r.event) ≡ true → AreOpen g.layout g.base (net_of (g.start ++ news)) os
-    → AreNamed g.layout codes ns
-    (map (renumbered_opening p) (openings_after (value_of g.layout g.base (g.start ++ news)) os r))
-    → slice_get lists n ≡ Some ns → IsNumbered p g codes lists (news ++ r ∷ []) (Some n)
-unfolding value_of
-numbered_on p g codes lists news r ns os n leaves open_here named found = (
-  ns,
-  openings_after (run g.layout g.base (net_of (g.start ++ news))) os r,
-  found,
-  named,
-  subst (λ (net : List Record). AreOpen g.layout g.base net
-      (openings_after (run g.layout g.base (net_of (g.start ++ news))) os r))
-      (sym (ap net_of (sym (append_assoc g.start news (r ∷ []))) ∙ net-push (g.start ++ news) r))
-      (open_more g.layout g.base (net_of (g.start ++ news)) os r leaves open_here),
-)
+module _ (p : ℕ → ℕ) (g : Setting) (codes : List (List ℕ)) where
+  -- one record more, where the number means what it makes
+  numbered_on : (lists : List (List NumberedOpening))
+      (news : List Record) (r : Record) (ns : List NumberedOpening) (os : List Opening) (n : ℕ)
+      → leaves_steps (effect_of r.event) ≡ true → AreOpen g.layout g.base (net_of (g.start ++ news)) os
+      → AreNamed g.layout codes ns
+      (map (renumbered_opening p) (openings_after (value_of g.layout g.base (g.start ++ news)) os r))
+      → slice_get lists n ≡ Some ns → IsNumbered p g codes lists (news ++ r ∷ []) (Some n)
+  unfolding value_of
+  numbered_on lists news r ns os n leaves open_here named found = (
+    ns,
+    openings_after (run g.layout g.base (net_of (g.start ++ news))) os r,
+    found,
+    named,
+    rw (← append_assoc g.start news (r ∷ []), net-push (g.start ++ news) r)
+        (open_more g.layout g.base (net_of (g.start ++ news)) os r leaves open_here),
+  )
 
--- by what the record does
-stays_on : (p : ℕ → ℕ) (g : Setting) (codes : List (List ℕ)) (lists : List (List NumberedOpening))
-    (news : List Record) (r : Record) (was : Option ℕ)
-    → change_of r ≡ Stays → leaves_steps (effect_of r.event) ≡ true → IsNumbered p g codes lists news was
-    → IsNumbered p g codes lists (news ++ r ∷ []) was
-stays_on p g codes lists news r None is leaves before = tt
-stays_on p g codes lists news r (Some n) is leaves before =
-    numbered_on p g codes lists news r before.0 before.1 n leaves before.4
-    (subst (λ (os : List Opening). AreNamed g.layout codes before.0 (map (renumbered_opening p) os))
-    (sym (ap (changed (value_of g.layout g.base (g.start ++ news)) r.serial before.1) is)) before.3)
-    before.2
+  -- by what the record does
+  stays_on : (lists : List (List NumberedOpening)) (news : List Record) (r : Record) (was : Option ℕ)
+      → change_of r ≡ Stays → leaves_steps (effect_of r.event) ≡ true → IsNumbered p g codes lists news was
+      → IsNumbered p g codes lists (news ++ r ∷ []) was
+  stays_on lists news r None is leaves before = tt
+  stays_on lists news r (Some n) is leaves before =
+      numbered_on lists news r before.0 before.1 n leaves before.4 (rw is before.3) before.2
 
-begins_on : (p : ℕ → ℕ) (g : Setting) (codes : List (List ℕ)) (old new : List (List NumberedOpening))
-    (news : List Record) (r : Record) (from was number : Option ℕ)
-    → change_of r ≡ Begins → leaves_steps (effect_of r.event) ≡ true
-    → IsBegun old new (p r.serial) from was number → IsStateAt p g codes news from
-    → IsNumbered p g codes old news was → IsNumbered p g codes new (news ++ r ∷ []) number
-begins_on p g codes old new news r from was None is leaves begun here before = tt
-begins_on p g codes old new news r from was (Some n) is leaves begun here before =
-    numbered_on p g codes new news r (first ∷ known.0) known.1 n leaves known.4
-    (subst (λ (os : List Opening). AreNamed g.layout codes (first ∷ known.0) (map (renumbered_opening p) os))
-    (sym (ap (changed (value_of g.layout g.base (g.start ++ news)) r.serial known.1) is))
-    (refl, state, known.3))
-    (begun.4 known.0 known.2)
-  where
-    known : IsNumbered p g codes old news (Some begun.0)
-    known = subst (IsNumbered p g codes old news) begun.2 before
+  begins_on : (old new : List (List NumberedOpening))
+      (news : List Record) (r : Record) (from was number : Option ℕ)
+      → change_of r ≡ Begins → leaves_steps (effect_of r.event) ≡ true
+      → IsBegun old new (p r.serial) from was number → IsStateAt p g codes news from
+      → IsNumbered p g codes old news was → IsNumbered p g codes new (news ++ r ∷ []) number
+  begins_on old new news r from was None is leaves begun here before = tt
+  begins_on old new news r from was (Some n) is leaves begun here before =
+      numbered_on new news r (first ∷ known.0) known.1 n leaves known.4
+      (rw is (refl, rw begun.3 at here, known.3)) (begun.4 known.0 known.2)
+    where
+      known : IsNumbered p g codes old news (Some begun.0)
+      known = rw begun.2 at before
 
-    state : IsCoded g.layout codes begun.1 (renumbered p (value_of g.layout g.base (g.start ++ news)))
-    state = subst (IsStateAt p g codes news) begun.3 here
+      first : NumberedOpening
+      first = record { op = p r.serial; memory = begun.1 }
 
-    first : NumberedOpening
-    first = record { op = p r.serial; memory = begun.1 }
+  made_on : (lists : List (List NumberedOpening)) (news : List Record) (r : Record) (was number : Option ℕ)
+      (f : List NumberedOpening → List NumberedOpening) (h : List Opening → List Opening)
+      → ((here : Memory) (os : List Opening) → openings_after here os r ≡ h os)
+      → ((ns : List NumberedOpening) (os : List Opening)
+      → AreNamed g.layout codes ns (map (renumbered_opening p) os)
+      → AreNamed g.layout codes (f ns) (map (renumbered_opening p) (h os)))
+      → leaves_steps (effect_of r.event) ≡ true → IsMadeBy f lists was number
+      → IsNumbered p g codes lists news was → IsNumbered p g codes lists (news ++ r ∷ []) number
+  made_on lists news r None number f h does name leaves made before =
+      rw made tt
+  made_on lists news r (Some n) number f h does name leaves made before =
+      let now = made before.0 before.2 in
+      rw now.1
+      (numbered_on lists news r (f before.0) before.1 now.0 leaves before.4
+      (rw (does (value_of g.layout g.base (g.start ++ news)) before.1) (name before.0 before.1 before.3))
+      now.2)
 
-made_on : (p : ℕ → ℕ) (g : Setting) (codes : List (List ℕ)) (lists : List (List NumberedOpening))
-    (news : List Record) (r : Record) (was number : Option ℕ)
-    (f : List NumberedOpening → List NumberedOpening) (h : List Opening → List Opening)
-    → ((here : Memory) (os : List Opening) → openings_after here os r ≡ h os)
-    → ((ns : List NumberedOpening) (os : List Opening)
-    → AreNamed g.layout codes ns (map (renumbered_opening p) os)
-    → AreNamed g.layout codes (f ns) (map (renumbered_opening p) (h os)))
-    → leaves_steps (effect_of r.event) ≡ true → IsMadeBy f lists was number
-    → IsNumbered p g codes lists news was → IsNumbered p g codes lists (news ++ r ∷ []) number
-made_on p g codes lists news r None number f h does name leaves made before =
-    subst (IsNumbered p g codes lists (news ++ r ∷ [])) (sym made) tt
-made_on p g codes lists news r (Some n) number f h does name leaves made before =
-    let at = made before.0 before.2 in
-    subst (IsNumbered p g codes lists (news ++ r ∷ [])) (sym at.1)
-    (numbered_on p g codes lists news r (f before.0) before.1 at.0 leaves before.4
-    (subst (λ (os : List Opening). AreNamed g.layout codes (f before.0) (map (renumbered_opening p) os))
-    (sym (does (value_of g.layout g.base (g.start ++ news)) before.1))
-    (name before.0 before.1 before.3))
-    at.2)
-
-ends_on : (p : ℕ → ℕ) (g : Setting) (codes : List (List ℕ)) (lists : List (List NumberedOpening))
-    (news : List Record) (r : Record) (number : Option ℕ)
-    → change_of r ≡ Ends → leaves_steps (effect_of r.event) ≡ true
-    → ((n : ℕ) → number ≡ Some n → slice_get lists n ≡ Some [])
-    → IsNumbered p g codes lists (news ++ r ∷ []) number
-ends_on p g codes lists news r None is leaves empty = tt
-ends_on p g codes lists news r (Some n) is leaves empty = (
-  [],
-  [],
-  empty n refl,
-  tt,
-  subst (λ (net : List Record). AreOpen g.layout g.base net [])
-      (sym (ap net_of (sym (append_assoc g.start news (r ∷ []))) ∙ net-push (g.start ++ news) r))
-      (none_after g.layout g.base (net_of (g.start ++ news)) r leaves is),
-)
+  ends_on : (lists : List (List NumberedOpening)) (news : List Record) (r : Record) (number : Option ℕ)
+      → change_of r ≡ Ends → leaves_steps (effect_of r.event) ≡ true
+      → ((n : ℕ) → number ≡ Some n → slice_get lists n ≡ Some [])
+      → IsNumbered p g codes lists (news ++ r ∷ []) number
+  ends_on lists news r None is leaves empty = tt
+  ends_on lists news r (Some n) is leaves empty = (
+    [],
+    [],
+    empty n refl,
+    tt,
+    rw (← append_assoc g.start news (r ∷ []), net-push (g.start ++ news) r)
+        (none_after g.layout g.base (net_of (g.start ++ news)) r leaves is),
+  )
 
 -- after one call more
 pub changed_on : (at : List Record → ℕ → ℕ) → IsNumbering at → (g : Setting) (codes : List (List ℕ))
@@ -249,49 +197,31 @@ pub changed_on : (at : List Record → ℕ → ℕ) → IsNumbering at → (g : 
 changed_on at numbering g codes old new news r from was number leaves changes here before =
     by_change (change_of r) refl changes
   where
-    steady : (change : Change) → change_of r ≡ change → (change ≡ Ends → ⊥)
-        → IsNumbered (at news) g codes new (news ++ r ∷ []) number
-        → IsNumbered (at (news ++ r ∷ [])) g codes new (news ++ r ∷ []) number
-    steady change is other numbered =
-        subst (λ (f : ℕ → ℕ). IsNumbered f g codes new (news ++ r ∷ []) number)
-        (sym (numbering.steady news r (λ ends. other (sym is ∙ ends)))) numbered
-
-    lists : (same : new ≡ old) → IsNumbered (at news) g codes old (news ++ r ∷ []) number
-        → IsNumbered (at news) g codes new (news ++ r ∷ []) number
-    lists same numbered =
-        subst (λ (all : List (List NumberedOpening)).
-        IsNumbered (at news) g codes all (news ++ r ∷ []) number) (sym same) numbered
-
     by_change : (change : Change) → change_of r ≡ change
         → IsChanged old new from (at news r.serial) (renumbered_change (at news) change) was number
         → IsNumbered (at (news ++ r ∷ [])) g codes new (news ++ r ∷ []) number
     by_change Stays is made =
-        steady Stays is (λ e. absurd cc)
-        (lists made.0 (subst (IsNumbered (at news) g codes old (news ++ r ∷ [])) (sym made.1)
-        (stays_on (at news) g codes old news r was is leaves before)))
+        rw (numbering.steady news r (λ ends. cc), made.0, made.1)
+        (stays_on (at news) g codes old news r was is leaves before)
     by_change Begins is made =
-        steady Begins is (λ e. absurd cc)
+        rw (numbering.steady news r (λ ends. cc))
         (begins_on (at news) g codes old new news r from was number is leaves made here before)
     by_change (Works op) is made =
-        steady (Works op) is (λ e. absurd cc)
-        (lists made.0 (made_on (at news) g codes old news r was number (after_work (at news op))
-        (after_work op) (λ memory os. ap (changed memory r.serial os) is)
-        (λ ns os named. subst (AreNamed g.layout codes (after_work (at news op) ns))
-        (sym (work_same (at news) (numbering.differ news) op os))
+        rw (numbering.steady news r (λ ends. cc), made.0)
+        (made_on (at news) g codes old news r was number (after_work (at news op)) (after_work op)
+        (λ memory os. ap (changed memory r.serial os) is)
+        (λ ns os named. rw (work_same (at news) (numbering.differ news) op os)
         (named_work g.layout codes (at news op) ns (map (renumbered_opening (at news)) os) named))
-        leaves made.1 before))
+        leaves made.1 before)
     by_change (Cancels op) is made =
-        steady (Cancels op) is (λ e. absurd cc)
-        (lists made.0 (made_on (at news) g codes old news r was number (after_cancel (at news op))
-        (after_cancel op) (λ memory os. ap (changed memory r.serial os) is)
-        (λ ns os named. subst (AreNamed g.layout codes (after_cancel (at news op) ns))
-        (sym (cancel_same (at news) (numbering.differ news) op os))
+        rw (numbering.steady news r (λ ends. cc), made.0)
+        (made_on (at news) g codes old news r was number (after_cancel (at news op)) (after_cancel op)
+        (λ memory os. ap (changed memory r.serial os) is)
+        (λ ns os named. rw (cancel_same (at news) (numbering.differ news) op os)
         (named_cancel g.layout codes (at news op) ns (map (renumbered_opening (at news)) os) named))
-        leaves made.1 before))
+        leaves made.1 before)
     by_change Ends is made =
-        subst (λ (all : List (List NumberedOpening)).
-        IsNumbered (at (news ++ r ∷ [])) g codes all (news ++ r ∷ []) number) (sym made.0)
-        (ends_on (at (news ++ r ∷ [])) g codes old news r number is leaves made.1)
+        rw made.0 (ends_on (at (news ++ r ∷ [])) g codes old news r number is leaves made.1)
 
 -- ---- numbers that are kept
 

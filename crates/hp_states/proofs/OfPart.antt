@@ -1,5 +1,5 @@
 -- Which part schedules belong to, by what they begin with; and the only part of one.
-use Rattle.std.proofs.Common.{◌≡◌, ℕ, ◌≤◌, List, [], ◌∷◌, ◌++◌, Some, length, take, refl, ap, sym, ◌∙◌, arith, inl, inr}
+use Rattle.std.proofs.Common.{◌≡◌, ℕ, ◌≤◌, List, [], ◌∷◌, ◌++◌, Some, length, take, refl, ◌∙◌, arith}
 use Rattle.std.proofs.lemmas.List.{length-append, length_push, take-append-le}
 use Rattle.hp_units.specs.declared.replies.Record.{Record}
 use Rattle.hp_schedules.specs.Alike.{AreAlike, AreMergeable}
@@ -17,9 +17,7 @@ use Rattle.hp_states.proofs.Merges.{merged}
 -- a schedule begins with the same calls as a place that it goes on from
 same_number : (n : ℕ) (part : PartValue) (p s : List ℕ) → part.calls ≤ length p → Extends s p
     → part_number n part.of (take part.calls s) ≡ part_number n part.of (take part.calls p)
-same_number n part p s long on =
-    ap (λ (first : List ℕ). part_number n part.of first)
-    (ap (λ (t : List ℕ). take part.calls t) on.1 ∙ take-append-le part.calls p on.0 long)
+same_number n part p s long on = grind (arith, take-append-le)
 
 -- so it belongs to the place's part
 pub all_of : (n : ℕ) (part : PartValue) (p : List ℕ) → part.calls ≤ length p → IsOfPart n part p
@@ -32,27 +30,16 @@ NoneOfPart processors part place = (s : List ℕ) → Extends s place → ComesT
 
 pub none_of : (n : ℕ) (part : PartValue) (p : List ℕ) → part.calls ≤ length p → (IsOfPart n part p → ⊥)
     → NoneOfPart n part p
-none_of n part p long apart s on comes =
-    elim comes [
-      | inl less ↦
-          absurd (omega (arith, long, less, ap (λ (t : List ℕ). length t) on.1, length-append p on.0))
-      | inr of ↦ apart (sym (same_number n part p s long on) ∙ of)
-    ]
+none_of n part p long apart s on comes = grind (arith, length-append, same_number)
 
 -- the places that the search of a part comes to
 pub comes_all : (n : ℕ) (part : PartValue) (p : List ℕ) → ComesTo n part p → part.calls ≤ length p
     → AllOfPart n part p
-comes_all n part p comes long =
-    elim comes [ inl less ↦ absurd (omega (arith, less, long)) | inr of ↦ all_of n part p long of ]
+comes_all n part p comes long = grind (arith, all_of)
 
 pub comes_on : (n : ℕ) (part : PartValue) (p : List ℕ) (cpu : ℕ) → ComesTo n part p
     → IsOn n part (p ++ cpu ∷ [])
-comes_on n part p cpu comes more =
-    elim comes [
-      | inl less ↦ absurd (omega (arith, less, more, length_push p cpu))
-      | inr of ↦
-          all_of n part p (omega (arith, more, length_push p cpu)) of (p ++ cpu ∷ []) (cpu ∷ [], refl)
-    ]
+comes_on n part p cpu comes more = grind (arith, length_push, all_of)
 
 -- ---- the only part of one
 

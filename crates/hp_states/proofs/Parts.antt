@@ -1,5 +1,5 @@
 -- The codes of the parts of a state, and of a whole state, tell them apart.
-use Rattle.std.proofs.Common.{◌/◌, ◌%◌, ℕ, zero, suc, ◌≡◌, ◌≤◌, List, [], ◌∷◌, ◌++◌, Bool, true, false, Option, None, Some, refl, sym, ◌∙◌, ap, arith, append_assoc}
+use Rattle.std.proofs.Common.{◌/◌, ℕ, zero, suc, ◌≡◌, ◌≤◌, List, [], ◌∷◌, ◌++◌, Bool, true, false, Option, None, Some, refl, sym, ◌∙◌, ap, arith, append_assoc}
 use Rattle.std.specs.List.{flat_map}
 use Rattle.hp_units.specs.LayoutParts.{LayoutParts}
 use Rattle.hp_units.specs.Memory.{Memory}
@@ -17,7 +17,7 @@ use Rattle.hp_units.specs.declared.rows.Wish.{Wish}
 use Rattle.hp_units.specs.declared.rows.Wish.TheVariants.{Off as OffWish, Normal as NormalWish, Movable as MovableWish}
 use Rattle.hp_units.specs.declared.rows.Zone.{Zone}
 use Rattle.hp_units.specs.declared.rows.Zone.TheVariants.{Normal as NormalZone, Movable as MovableZone}
-use Rattle.hp_states.specs.Numbers.{number_code, option_code}
+use Rattle.hp_states.specs.Numbers.{option_code}
 use Rattle.hp_units.specs.Rows.{state_number, zone_number}
 use Rattle.hp_states.specs.Parts.{auto_number, claim_code, counted_code, kind_code, kind_number, row_code, wish_number, words_code}
 use Rattle.hp_states.specs.Codes.{state_code}
@@ -92,24 +92,22 @@ auto_back MovableAuto = refl
 
 kind-apart : TellsApart kind_code
 kind-apart a b xs ys e =
-    let h = heads (kind_number a.mobility a.isolated) (kind_number b.mobility b.isolated) xs ys e in (
+    let h = heads e in (
       sym (kind_back a.mobility a.isolated) ∙ (ap kind_numbered h.0 ∙ kind_back b.mobility b.isolated),
       h.1,
     )
 
 claim-apart : TellsApart claim_code
-claim-apart None None xs ys e = (refl, (heads 0 0 xs ys e).1)
+claim-apart None None xs ys e = (refl, (heads e).1)
 claim-apart None (Some b) xs ys e =
-    let h = heads 0 (wish_number b.wish) xs (b.op % 2 ∷ number_code (b.op / 2) ++ ys) e in
+    let h = heads e in
     absurd (omega (arith, h.0, wish_some b.wish))
 claim-apart (Some a) None xs ys e =
-    let h = heads (wish_number a.wish) 0 (a.op % 2 ∷ number_code (a.op / 2) ++ xs) ys e in
+    let h = heads e in
     absurd (omega (arith, h.0, wish_some a.wish))
 claim-apart (Some a) (Some b) xs ys e =
-    let first = heads (wish_number a.wish) (wish_number b.wish) (a.op % 2 ∷ number_code (a.op / 2) ++ xs)
-    (b.op % 2 ∷ number_code (b.op / 2) ++ ys) e in
-    let odd = heads (a.op % 2) (b.op % 2) (number_code (a.op / 2) ++ xs) (number_code (b.op / 2) ++ ys)
-    first.1 in
+    let first = heads e in
+    let odd = heads first.1 in
     let rest = number-apart (a.op / 2) (b.op / 2) xs ys odd.1 in
     let op : a.op ≡ b.op = omega (arith, odd.0, rest.0) in
     let wish : a.wish ≡ b.wish =
@@ -121,10 +119,8 @@ claim-apart (Some a) (Some b) xs ys e =
 
 row-apart : TellsApart row_code
 row-apart a b xs ys e =
-    let first = heads (state_number a.state) (state_number b.state)
-    (zone_number a.zone ∷ claim_code a.claim ++ xs) (zone_number b.zone ∷ claim_code b.claim ++ ys) e in
-    let second = heads (zone_number a.zone) (zone_number b.zone) (claim_code a.claim ++ xs)
-    (claim_code b.claim ++ ys) first.1 in
+    let first = heads e in
+    let second = heads first.1 in
     let rest = claim-apart a.claim b.claim xs ys second.1 in
     let state : a.state ≡ b.state =
     sym (state_back a.state) ∙ (ap state_numbered first.0 ∙ state_back b.state) in
@@ -184,7 +180,7 @@ states-apart l a b p q e =
     contents.1 in
     let rows = many-apart row_code row-apart a.blocks.rows b.blocks.rows _ _ (p.rows ∙ sym q.rows)
     kernel.1 in
-    let last = heads (auto_number a.blocks.auto) (auto_number b.blocks.auto) [] [] rows.1 in
+    let last = heads rows.1 in
     let auto : a.blocks.auto ≡ b.blocks.auto =
     sym (auto_back a.blocks.auto) ∙ (ap auto_numbered last.0 ∙ auto_back b.blocks.auto) in
     sym (made_is a) ∙ ((cc (lists.0, kinds.0, cached.0, table.0, contents.0, kernel.0, rows.0)) ∙ made_is b)

@@ -1,6 +1,6 @@
 -- What the numbers of where a walk stands mean.
-use Rattle.std.proofs.Common.{◌≡◌, ℕ, ◌<◌, Bool, List, [], ◌∷◌, length, replicate, cond, Some, None, get_or, slice_get, ap, sym, subst, ◌∙◌, arith}
-use Rattle.std.proofs.lemmas.Option.{same_Some, slice_get-get_or, slice_get_within}
+use Rattle.std.proofs.Common.{◌≡◌, ℕ, ◌<◌, Bool, List, [], ◌∷◌, length, replicate, cond, Some, None, get_or, arith}
+use Rattle.std.proofs.lemmas.Option.{slice_get-get_or, slice_get_within}
 use Rattle.hp_units.specs.declared.replies.Record.{Record}
 use Rattle.hp_schedules.specs.Alike.{is_closed}
 use Rattle.hp_states.specs.Exchanges.{IsExchanged}
@@ -16,10 +16,7 @@ pub keep_none : (s : StandingValue) → KeepMeanings s s
 keep_none s = record { stops = keep_no_stops s.stops; chains = λ n xs h. h }
 
 pub keep_same_numbers : (old new : StandingValue) → AreSameNumbers old new → KeepMeanings old new
-keep_same_numbers old new same = record {
-  stops = keep_same_stops old.stops new.stops same.0;
-  chains = keep_same old.exchanged.chains new.exchanged.chains same.1;
-}
+keep_same_numbers old new same = grind (arith, keep_same_stops, keep_same)
 
 -- ---- before any call
 
@@ -35,25 +32,19 @@ pub stood_begun : (g : Setting) (s : StandingValue) (n : ℕ) (closed : Bool) �
     }
     → IsStanding g [] s
 stood_begun g s n closed many told is =
-    subst (IsStanding g []) (sym is)
-    (record { stops = begun_at plainly g closed told; exchanged = exchanged_begun g n many })
+    rw is (record { stops = begun_at plainly g closed told; exchanged = exchanged_begun g n many })
 
 -- ---- the number of a processor's exchanges
 
 pub number_inside : (g : Setting) (news : List Record) (s : StandingValue) (numbers : List ℕ) (cpu : ℕ)
     → numbers ≡ s.exchanged.here → cpu < length g.scripts → IsStanding g news s → cpu < length numbers
-number_inside g news s numbers cpu same within stood =
-    let at = stood.exchanged cpu within in
-    let less = slice_get_within s.exchanged.here cpu at.0 at.1 in
-    omega (arith, less, ap (λ (ns : List ℕ). length ns) same)
+number_inside g news s numbers cpu same within stood = grind (arith, slice_get_within)
 
 pub number_read : (g : Setting) (news : List Record) (s : StandingValue) (numbers : List ℕ) (cpu : ℕ)
     → numbers ≡ s.exchanged.here → cpu < length g.scripts → IsStanding g news s
     → IsExchanged s.exchanged.chains cpu news (get_or numbers cpu 0)
 number_read g news s numbers cpu same within stood =
-    subst (IsExchanged s.exchanged.chains cpu news)
-    (same_Some at.0 (get_or numbers cpu 0) (sym at.1 ∙ (ap (λ (ns : List ℕ). slice_get ns cpu) (sym same)
-    ∙ slice_get-get_or numbers cpu 0 (number_inside g news s numbers cpu same within stood)))) at.2
-  where
-    at : (n : ℕ) × (slice_get s.exchanged.here cpu ≡ Some n) × IsExchanged s.exchanged.chains cpu news n
-    at = stood.exchanged cpu within
+    let known = stood.exchanged cpu within in
+    let read = slice_get-get_or numbers cpu 0 (number_inside g news s numbers cpu same within stood) in
+    let is : known.0 ≡ get_or numbers cpu 0 = cc in
+    rw (← is) known.2

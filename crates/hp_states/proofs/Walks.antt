@@ -1,5 +1,5 @@
 -- The walk over the schedules of a part, place by place.
-use Rattle.std.proofs.Common.{◌≡◌, ℕ, ◌+◌, ◌<◌, true, List, [], ◌∷◌, ◌++◌, length, Option, Some, None, refl, sym, subst, ◌∙◌, arith, inl, inr}
+use Rattle.std.proofs.Common.{◌≡◌, ℕ, ◌+◌, true, List, [], ◌∷◌, ◌++◌, length, Some, None, refl, sym, subst, ◌∙◌, arith, inl, inr}
 use Rattle.std.specs.Prelude.{sum_by}
 use Rattle.std.proofs.lemmas.List.{append-nil}
 use Rattle.hp_units.specs.declared.events.Event.{Event}
@@ -7,10 +7,10 @@ use Rattle.hp_units.specs.declared.replies.Record.{Record}
 use Rattle.hp_schedules.specs.Outcomes.{OutcomeValue}
 use Rattle.hp_schedules.specs.declared.tally.Ending.{Ending}
 use Rattle.hp_schedules.specs.Ends.{AreCounted}
-use Rattle.hp_schedules.specs.Orders.{Extends, HasMoreThan, IsBefore}
+use Rattle.hp_schedules.specs.Orders.{HasMoreThan}
 use Rattle.hp_schedules.specs.Notes.{IsNoted}
 use Rattle.hp_schedules.specs.Parts.{EndsInPart, IsCompleteInPart, IsOfPart, PartValue}
-use Rattle.hp_schedules.specs.Schedules.{EndsWith, Setting, outcome_after, next_call, plays}
+use Rattle.hp_schedules.specs.Schedules.{Setting, outcome_after, next_call, plays}
 use Rattle.hp_states.specs.Walks.{BeforeInPart, IsOverBelow, ThroughInPart}
 use Rattle.hp_schedules.proofs.Counts.{With, more_than, none_counted, noted, same_counted}
 use Rattle.hp_schedules.proofs.Regions.{before_all, before_first, before_later, before_longer, before_next, extends_before, not_before_itself, not_before_longer}
@@ -27,145 +27,123 @@ walk_ends g part ends ok =
     same_counted (ThroughInPart g part []) (EndsInPart g part) ends (λ s x h. h.1)
     (λ s x h. (inr (s, refl), h)) ok
 
--- from a place to its first continuation
-pub walk_down : (g : Setting) (part : PartValue) (p : List ℕ) (ends : List Ending)
-    → AreCounted (BeforeInPart g part p) ends → AreCounted (BeforeInPart g part (p ++ 0 ∷ [])) ends
-walk_down g part p ends ok =
-    same_counted (BeforeInPart g part p) (BeforeInPart g part (p ++ 0 ∷ [])) ends
-    (λ s x h. (before_longer s p (0 ∷ []) h.0, h.1)) (λ s x h. (before_first s p h.0, h.1)) ok
+module _ (g : Setting) (part : PartValue) (p : List ℕ) where
+  -- from a place to its first continuation
+  pub walk_down : (ends : List Ending)
+      → AreCounted (BeforeInPart g part p) ends → AreCounted (BeforeInPart g part (p ++ 0 ∷ [])) ends
+  walk_down ends ok =
+      same_counted (BeforeInPart g part p) (BeforeInPart g part (p ++ 0 ∷ [])) ends
+      (λ s x h. (before_longer s p (0 ∷ []) h.0, h.1)) (λ s x h. (before_first s p h.0, h.1)) ok
 
--- past a continuation that was walked
-pub walk_past : (g : Setting) (part : PartValue) (p : List ℕ) (cpu : ℕ) (ends : List Ending)
-    → AreCounted (ThroughInPart g part (p ++ cpu ∷ [])) ends
-    → AreCounted (BeforeInPart g part (p ++ (cpu + 1) ∷ [])) ends
-walk_past g part p cpu ends ok =
-    same_counted (ThroughInPart g part (p ++ cpu ∷ [])) (BeforeInPart g part (p ++ (cpu + 1) ∷ [])) ends
-    (λ s x h. (
-      elim h.0 [
-        | inl b ↦ before_later s p cpu (cpu + 1) (omega arith) b
-        | inr e ↦ extends_before s p cpu (cpu + 1) (omega arith) e
-      ],
-      h.1,
-    ))
-    (λ s x h. (before_next s p cpu h.0, h.1)) ok
+  -- past a continuation that was walked
+  pub walk_past : (cpu : ℕ) (ends : List Ending) → AreCounted (ThroughInPart g part (p ++ cpu ∷ [])) ends
+      → AreCounted (BeforeInPart g part (p ++ (cpu + 1) ∷ [])) ends
+  walk_past cpu ends ok =
+      same_counted (ThroughInPart g part (p ++ cpu ∷ [])) (BeforeInPart g part (p ++ (cpu + 1) ∷ [])) ends
+      (λ s x h. (
+        elim h.0 [
+          | inl b ↦ before_later s p cpu (cpu + 1) (omega arith) b
+          | inr e ↦ extends_before s p cpu (cpu + 1) (omega arith) e
+        ],
+        h.1,
+      ))
+      (λ s x h. (before_next s p cpu h.0, h.1)) ok
 
--- past a continuation that there is not
-pub walk_over : (g : Setting) (part : PartValue) (p : List ℕ) (news : List Record) (cpu : ℕ)
-    (ends : List Ending)
-    → plays g p ≡ Some news → next_call g cpu news ≡ None
-    → AreCounted (BeforeInPart g part (p ++ cpu ∷ [])) ends
-    → AreCounted (BeforeInPart g part (p ++ (cpu + 1) ∷ [])) ends
-walk_over g part p news cpu ends played over ok =
-    same_counted (BeforeInPart g part (p ++ cpu ∷ [])) (BeforeInPart g part (p ++ (cpu + 1) ∷ [])) ends
-    (λ s x h. (before_later s p cpu (cpu + 1) (omega arith) h.0, h.1))
-    (λ s x h. (
-      elim (before_next s p cpu h.0)
-          [ inl b ↦ b | inr e ↦ absurd (none_through g p news cpu s x played over e h.1.0) ],
-      h.1,
-    )) ok
+  -- past a continuation that there is not
+  pub walk_over : (news : List Record) (cpu : ℕ) (ends : List Ending)
+      → plays g p ≡ Some news → next_call g cpu news ≡ None
+      → AreCounted (BeforeInPart g part (p ++ cpu ∷ [])) ends
+      → AreCounted (BeforeInPart g part (p ++ (cpu + 1) ∷ [])) ends
+  walk_over news cpu ends played over ok =
+      same_counted (BeforeInPart g part (p ++ cpu ∷ [])) (BeforeInPart g part (p ++ (cpu + 1) ∷ [])) ends
+      (λ s x h. (before_later s p cpu (cpu + 1) (omega arith) h.0, h.1))
+      (λ s x h. (
+        elim (before_next s p cpu h.0)
+            [ inl b ↦ b | inr e ↦ absurd (none_through g p news cpu s x played over e h.1.0) ],
+        h.1,
+      )) ok
 
--- after the last continuation, where there was one
-pub walk_up : (g : Setting) (part : PartValue) (p : List ℕ) (news : List Record) (cpu : ℕ) (event : Event)
-    (ends : List Ending)
-    → plays g p ≡ Some news → next_call g cpu news ≡ Some event
-    → AreCounted (BeforeInPart g part (p ++ length g.scripts ∷ [])) ends
-    → AreCounted (ThroughInPart g part p) ends
-walk_up g part p news cpu event ends played asked ok =
-    same_counted (BeforeInPart g part (p ++ length g.scripts ∷ [])) (ThroughInPart g part p) ends
-    (λ s x h. (before_all s p (length g.scripts) h.0, h.1))
-    (λ s x h. (
-      elim h.0 [
-        | inl b ↦ before_longer s p (length g.scripts ∷ []) b
-        | inr e ↦ below s (goes_on g p news cpu event s x played asked e h.1.0)
-      ],
-      h.1,
-    ))
-    ok
-  where
-    below : (s : List ℕ) → (next : ℕ) × (next < length g.scripts) × Extends s (p ++ next ∷ [])
-        → IsBefore s (p ++ length g.scripts ∷ [])
-    below s on = extends_before s p on.0 (length g.scripts) on.1 on.2
+  -- after the last continuation, where there was one
+  pub walk_up : (news : List Record) (cpu : ℕ) (event : Event) (ends : List Ending)
+      → plays g p ≡ Some news → next_call g cpu news ≡ Some event
+      → AreCounted (BeforeInPart g part (p ++ length g.scripts ∷ [])) ends
+      → AreCounted (ThroughInPart g part p) ends
+  walk_up news cpu event ends played asked ok =
+      same_counted (BeforeInPart g part (p ++ length g.scripts ∷ [])) (ThroughInPart g part p) ends
+      (λ s x h. (before_all s p (length g.scripts) h.0, h.1))
+      (λ s x h. (
+        elim h.0 [
+          | inl b ↦ before_longer s p (length g.scripts ∷ []) b
+          | inr e ↦ (let on = goes_on g p news cpu event s x played asked e h.1.0 in
+              extends_before s p on.0 (length g.scripts) on.1 on.2)
+        ],
+        h.1,
+      )) ok
 
--- where no script asks for anything those before the last continuation are those before the place
-pub walk_here : (g : Setting) (part : PartValue) (p : List ℕ) (news : List Record) (ends : List Ending)
-    → plays g p ≡ Some news → ((cpu : ℕ) → next_call g cpu news ≡ None)
-    → AreCounted (BeforeInPart g part (p ++ length g.scripts ∷ [])) ends
-    → AreCounted (BeforeInPart g part p) ends
-walk_here g part p news ends played over ok =
-    same_counted (BeforeInPart g part (p ++ length g.scripts ∷ [])) (BeforeInPart g part p) ends
-    (λ s x h. (
-      elim (before_all s p (length g.scripts) h.0) [
-        | inl b ↦ b
-        | inr e ↦ absurd
-            (not_before_longer p (length g.scripts ∷ []) (subst (λ (t : List ℕ).
-            IsBefore t (p ++ length g.scripts ∷ [])) (only_this g p news s x played over e h.1.0).0 h.0))
-      ],
-      h.1,
-    ))
-    (λ s x h. (before_longer s p (length g.scripts ∷ []) h.0, h.1)) ok
+  -- where no script asks for anything those before the last continuation are those before the place
+  pub walk_here : (news : List Record) (ends : List Ending)
+      → plays g p ≡ Some news → ((cpu : ℕ) → next_call g cpu news ≡ None)
+      → AreCounted (BeforeInPart g part (p ++ length g.scripts ∷ [])) ends
+      → AreCounted (BeforeInPart g part p) ends
+  walk_here news ends played over ok =
+      same_counted (BeforeInPart g part (p ++ length g.scripts ∷ [])) (BeforeInPart g part p) ends
+      (λ s x h. (
+        elim (before_all s p (length g.scripts) h.0) [
+          | inl b ↦ b
+          | inr e ↦ absurd
+              (not_before_longer p (length g.scripts ∷ [])
+              (rw (only_this g p news s x played over e h.1.0).0 at h.0))
+        ],
+        h.1,
+      ))
+      (λ s x h. (before_longer s p (length g.scripts ∷ []) h.0, h.1)) ok
 
--- and one more, where it is the part's
-pub walk_notes : (g : Setting) (part : PartValue) (p : List ℕ) (news : List Record) (old new : List Ending)
-    → plays g p ≡ Some news → ((cpu : ℕ) → next_call g cpu news ≡ None)
-    → IsOfPart (length g.scripts) part p
-    → AreCounted (BeforeInPart g part (p ++ length g.scripts ∷ [])) old
-    → IsNoted old (outcome_after g news) p new → AreCounted (ThroughInPart g part p) new
-walk_notes g part p news old new played over of ok adds =
-    same_counted (With (BeforeInPart g part p) p (outcome_after g news)) (ThroughInPart g part p) new to from
-    (noted (BeforeInPart g part p) p (outcome_after g news) old new
-    (walk_here g part p news old played over ok) (λ s x h. h.0) adds)
-  where
-    to : (s : List ℕ) (x : OutcomeValue) → With (BeforeInPart g part p) p (outcome_after g news) s x
-        → ThroughInPart g part p s x
-    to s x h =
-        elim h [
-          | inl b ↦ (inl b.0, b.1)
-          | inr at ↦ (
-            inr ([], at.0 ∙ sym (append-nil p)),
-            subst (λ (t : List ℕ). EndsInPart g part t x) (sym at.0)
-                (subst (EndsWith g p) (sym at.1) (complete g p news played over), of),
-          )
-        ]
+  -- and one more, where it is the part's
+  pub walk_notes : (news : List Record) (old new : List Ending)
+      → plays g p ≡ Some news → ((cpu : ℕ) → next_call g cpu news ≡ None) → IsOfPart (length g.scripts) part p
+      → AreCounted (BeforeInPart g part (p ++ length g.scripts ∷ [])) old
+      → IsNoted old (outcome_after g news) p new → AreCounted (ThroughInPart g part p) new
+  walk_notes news old new played over of ok adds =
+      same_counted (With (BeforeInPart g part p) p (outcome_after g news)) (ThroughInPart g part p) new
+      (λ s x h. elim h [
+        | inl b ↦ (inl b.0, b.1)
+        | inr here ↦ (
+          inr ([], here.0 ∙ sym (append-nil p)),
+          rw (here.0, here.1) (complete g p news played over, of),
+        )
+      ])
+      (λ s x h. elim h.0 [ inl b ↦ inl (b, h.1) | inr e ↦ inr (only_this g p news s x played over e h.1.0) ])
+      (noted (BeforeInPart g part p) p (outcome_after g news) old new
+      (walk_here news old played over ok) (λ s x h. h.0) adds)
 
-    from : (s : List ℕ) (x : OutcomeValue) → ThroughInPart g part p s x
-        → With (BeforeInPart g part p) p (outcome_after g news) s x
-    from s x h =
-        elim h.0 [ inl b ↦ inl (b, h.1) | inr e ↦ inr (only_this g p news s x played over e h.1.0) ]
+  -- or none more, where it is another part's
+  pub walk_apart : (news : List Record) (ends : List Ending)
+      → plays g p ≡ Some news → ((cpu : ℕ) → next_call g cpu news ≡ None)
+      → (IsOfPart (length g.scripts) part p → ⊥)
+      → AreCounted (BeforeInPart g part (p ++ length g.scripts ∷ [])) ends
+      → AreCounted (ThroughInPart g part p) ends
+  walk_apart news ends played over apart ok =
+      same_counted (BeforeInPart g part p) (ThroughInPart g part p) ends (λ s x h. (inl h.0, h.1))
+      (λ s x h. (
+        elim h.0 [
+          | inl b ↦ b
+          | inr e ↦ absurd (apart (rw (only_this g p news s x played over e h.1.0).0 at h.1.1))
+        ],
+        h.1,
+      ))
+      (walk_here news ends played over ok)
 
--- or none more, where it is another part's
-pub walk_apart : (g : Setting) (part : PartValue) (p : List ℕ) (news : List Record) (ends : List Ending)
-    → plays g p ≡ Some news → ((cpu : ℕ) → next_call g cpu news ≡ None)
-    → (IsOfPart (length g.scripts) part p → ⊥)
-    → AreCounted (BeforeInPart g part (p ++ length g.scripts ∷ [])) ends
-    → AreCounted (ThroughInPart g part p) ends
-walk_apart g part p news ends played over apart ok =
-    same_counted (BeforeInPart g part p) (ThroughInPart g part p) ends (λ s x h. (inl h.0, h.1))
-    (λ s x h. (
-      elim h.0 [
-        | inl b ↦ b
-        | inr e ↦
-            absurd (apart (subst (λ (t : List ℕ). IsOfPart (length g.scripts) part t)
-            (only_this g p news s x played over e h.1.0).0 h.1.1))
-      ],
-      h.1,
-    ))
-    (walk_here g part p news ends played over ok)
-
--- so there are more than those before a complete one
-pub walk_exceeds : (g : Setting) (part : PartValue) (p : List ℕ) (ends : List Ending) (limit : ℕ)
-    → IsCompleteInPart g part p → AreCounted (BeforeInPart g part p) ends
-    → sum_by (λ (e : Ending). e.count) ends ≡ limit → HasMoreThan (IsCompleteInPart g part) limit
-walk_exceeds g part p ends limit next ok sum =
-    subst (HasMoreThan (IsCompleteInPart g part)) sum
-    (more_than (λ s. (x : OutcomeValue) × BeforeInPart g part p s x) (IsCompleteInPart g part)
-    (sum_by (λ (e : Ending). e.count) ends) p (λ h. not_before_itself p h.1.0) (λ s h. (h.0, h.1.1)) next
-    ok.total)
+  -- so there are more than those before a complete one
+  pub walk_exceeds : (ends : List Ending) (limit : ℕ)
+      → IsCompleteInPart g part p → AreCounted (BeforeInPart g part p) ends
+      → sum_by (λ (e : Ending). e.count) ends ≡ limit → HasMoreThan (IsCompleteInPart g part) limit
+  walk_exceeds ends limit next ok sum =
+      subst (HasMoreThan (IsCompleteInPart g part)) sum
+      (more_than (λ s. (x : OutcomeValue) × BeforeInPart g part p s x) (IsCompleteInPart g part)
+      (sum_by (λ (e : Ending). e.count) ends) p (λ h. not_before_itself p h.1.0) (λ s h. (h.0, h.1.1)) next
+      ok.total)
 
 -- all scripts are at their ends where those of the scripts' processors are
 pub over_all : (g : Setting) (news : List Record) → IsOverBelow g news (length g.scripts) true → (cpu : ℕ)
     → next_call g cpu news ≡ None
-over_all g news below cpu = by_next (next_call g cpu news) refl
-  where
-    by_next : (next : Option Event) → next_call g cpu news ≡ next → next_call g cpu news ≡ None
-    by_next None is = is
-    by_next (Some event) is = below cpu (asks_within g news cpu event is)
+over_all g news below cpu = grind (arith, asks_within)

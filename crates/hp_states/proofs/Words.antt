@@ -27,7 +27,6 @@ pub words_are : (l : LayoutParts) (s : Memory) (v : PagesValue) (owner page : �
     → v ≡ record { layout = l; pages = page_frames_of l s.pages }
     → answer ≡ words_of v.layout v.pages owner page → answer ≡ words_at s.pages owner page
 words_are l s v owner page answer layout placed is e =
-    e ∙ (ap (λ (w : PagesValue). words_of w.layout w.pages owner page) is
-    ∙ by_entry l s.pages owner page (frame_at s.pages owner page)
-    (once_placed l s placed (placed-fits l s layout placed).pages)
-    (placed.in_order.words owner page) refl)
+    rw (e, is)
+    (by_entry l s.pages owner page (frame_at s.pages owner page)
+    (once_placed l s placed (placed-fits l s layout placed).pages) (placed.in_order.words owner page) refl)

@@ -1,5 +1,5 @@
 -- One of another part is left at once.
-use Rattle.std.proofs.Common.{ℕ, arith, inl, refl, subst, sym, ◌∙◌}
+use Rattle.std.proofs.Common.{ℕ, arith, inl, subst, sym, ◌∙◌}
 use Rattle.std.proofs.lemmas.List.{length-map}
 use Rattle.std.proofs.lemmas.Result.{IfOk-weaker}
 use Rattle.hp_units.specs.declared.replies.Record.{Record}
@@ -21,8 +21,8 @@ enter-requires-clause-stood o c =
 pub returns-then-leaves_out-clause-ok : goal.returns-then-leaves_out-clause-ok
 returns-then-leaves_out-clause-ok o c =
     λ g at.
-    left_out g c.args.part c.args.records.now c.args.records.now c.args.processors c.args.tally.now
-    refl (c.requires.processors ∙ at.stood.place.cursors_are.many)
+    left_out g c.args.part c.args.records.now c.args.processors c.args.tally.now
+    (c.requires.processors ∙ at.stood.place.cursors_are.many)
     (omega (arith, c.if-records-calls.false, c.calls.ensures))
     (c.leaves_out.ensures.out c.if-leaves_out.true) at.walked
 
@@ -49,9 +49,8 @@ leaves_out-requires-clause-on o c =
 pub returns-clause-ok : goal.returns-clause-ok
 returns-clause-ok o c =
     IfOk-weaker c.enter.result _ _
-    (λ entry entered g at. let_in g c.args.records.now c.args.part c.args.records.now c.args.processors
-    c.args.tally.now c.enter.new.tally entry
-    refl (c.requires.processors ∙ at.stood.place.cursors_are.many)
+    (λ entry entered g at. let_in g c.args.records.now c.args.part c.args.processors c.args.tally.now
+    c.enter.new.tally entry (c.requires.processors ∙ at.stood.place.cursors_are.many)
     (omega (arith, c.if-records-calls.false, c.calls.ensures))
     (c.leaves_out.ensures.within c.if-leaves_out.false) at.walked
     (entered g c.args.records.now at.stood))

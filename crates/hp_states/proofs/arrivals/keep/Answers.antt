@@ -1,7 +1,6 @@
 -- What was counted since the walk came to the place is what goes on from there.
 use Rattle.std.proofs.Common.{refl}
 use Rattle.std.proofs.lemmas.Result.{on_ok_weaker}
-use Rattle.hp_states.specs.Frames.{counts_of}
 use Rattle.hp_states.specs.Places.{standing}
 use Rattle.hp_states.proofs.Keeping.{memo_more, memo_written, row_kept}
 use Rattle.hp_states.proofs.arrivals.keep.Goals as goal
@@ -26,7 +25,7 @@ returns-clause-memo c =
     c.in_ok-has_key.ensures.ok c.if-not-has_key.false g news keeping.cursors_are keeping.way in
     memo_more g ends memo c.keep.new.self c.args.shares.now more
     (memo_written g ends c.args.memo.now memo c.write_key.ensures.same keeping.memo_is)
-    (row_kept g walked.part (standing g news) memo.standing walked.old ends (counts_of walked.old) memo.key
-    c.args.shares.now walked.all (record { layout = refl; played = keeping.played; state = refl }) refl
-    walked.counted walked.grown walked.before walked.through key_is))
+    (row_kept g walked.part (standing g news) memo.standing walked.old ends memo.key c.args.shares.now
+    walked.all (record { layout = refl; played = keeping.played; state = refl }) walked.counted
+    walked.grown walked.before walked.through key_is))
     c.keep.ensures.ok

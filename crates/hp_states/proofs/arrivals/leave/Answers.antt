@@ -1,8 +1,6 @@
 -- What was counted since the walk reached the place is what goes on from there.
-use Rattle.std.proofs.Common.{List, arith, subst, sym}
+use Rattle.std.proofs.Common.{arith}
 use Rattle.std.proofs.lemmas.Result.{on_ok_weaker}
-use Rattle.hp_schedules.specs.declared.tally.Ending.{Ending}
-use Rattle.hp_states.specs.Seen.{IsMemo}
 use Rattle.hp_states.proofs.Entered.{go_on_gathered}
 use Rattle.hp_states.proofs.Leaving.{left_kept}
 use Rattle.hp_states.proofs.arrivals.leave.Goals as goal
@@ -24,8 +22,7 @@ keep-requires-clause-keeping c =
 
 pub returns-then-records-calls-clause-memo : goal.returns-then-records-calls-clause-memo
 returns-then-records-calls-clause-memo c =
-    λ g leaving. subst (λ (ends : List Ending). IsMemo g ends c.args.memo.now) (sym c.gather.ensures.ends)
-    leaving.memo_is
+    λ g leaving. rw c.gather.ensures.ends leaving.memo_is
 
 pub returns-then-records-calls-clause-tally : goal.returns-then-records-calls-clause-tally
 returns-then-records-calls-clause-tally c =

@@ -1,5 +1,5 @@
 -- The chain has the number of an entry that is found, or of one that is added.
-use Rattle.std.proofs.Common.{◌∷◌, ◌++◌, ◌<◌, ◌+◌, [], List, length, ap, refl, subst, sym, ◌∙◌, arith}
+use Rattle.std.proofs.Common.{◌<◌, ◌+◌, List, length, ap, refl, subst, sym, arith}
 use Rattle.hp_units.specs.declared.replies.Receipt.{Receipt}
 use Rattle.hp_states.specs.Exchanges.{IsChained, at_end, chains_of, exchange_below, exchange_in}
 use Rattle.hp_states.specs.Interned.{KeepNumbers, StandOnEarlier}
@@ -27,8 +27,7 @@ invariant_of-self-2 c =
       below = c.args.below;
     } in
     stand_added exchange_below at_end c.self.inside.entries.items c.push_reserved.new.self.items e
-    (c.push_reserved.ensures.items
-    ∙ ap (λ (entries : List Exchange). entries ++ e ∷ []) c.reserve.ensures.items)
+    (rw c.reserve.ensures.items at c.push_reserved.ensures.items)
     c.self.invariant
     (subst (λ (chains : List (List Receipt)). c.args.below < length chains) (sym c.self.view_is) c.requires)
 
@@ -42,8 +41,7 @@ returns-clause-kept c =
     subst (λ (chains : List (List Receipt)). KeepNumbers chains (chains_of c.push_reserved.new.self.items))
     c.self.view_is
     (keep_added exchange_below at_end c.self.inside.entries.items c.push_reserved.new.self.items e
-    (c.push_reserved.ensures.items
-    ∙ ap (λ (entries : List Exchange). entries ++ e ∷ []) c.reserve.ensures.items))
+    (rw c.reserve.ensures.items at c.push_reserved.ensures.items))
 
 pub returns-clause-ok : goal.returns-clause-ok
 returns-clause-ok c =
@@ -57,8 +55,7 @@ returns-clause-ok c =
     c.args.below (c.len-number.result + 1)) c.self.view_is
     (chained_added c.self.inside.entries.items c.push_reserved.new.self.items e
     (exchange_in c.args.latest.now) (c.len-number.result + 1)
-    (c.push_reserved.ensures.items
-    ∙ ap (λ (entries : List Exchange). entries ++ e ∷ []) c.reserve.ensures.items)
+    (rw c.reserve.ensures.items at c.push_reserved.ensures.items)
     (omega
     (arith, c.len-number.ensures, ap (λ (entries : List Exchange). length entries) c.reserve.ensures.items))
     (exchange_same e c.args.latest.now c.in_ok-event.ensures.ok refl))

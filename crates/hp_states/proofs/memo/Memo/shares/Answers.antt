@@ -1,14 +1,12 @@
 -- The row is that of the place where the key is.
-use Rattle.std.proofs.Common.{Bor, IfSome, List, subst}
-use Rattle.hp_states.specs.Seen.{IsRowAmong, MemoValue}
+use Rattle.std.proofs.Common.{Bor, List}
 use Rattle.hp_schedules.specs.declared.trail.Share.{Share}
 use Rattle.hp_states.proofs.Keeping.{row_among}
 use Rattle.hp_states.proofs.memo.Memo.shares.Goals as goal
 
 pub returns : goal.returns
 returns c =
-    subst (λ (m : MemoValue). IfSome c.row.result (λ row. IsRowAmong m.keys m.rows m.key row.now))
-    c.self.view_is
+    rw (← c.self.view_is)
     (row_among (λ (row : Bor (List Share)). row.now) c.row.result c.self.inside.keys c.self.inside.rows
     c.self.inside.key c.bytes.result.now c.in-Some.place c.bytes.ensures
     c.in-Some.ensures c.row.ensures.some)

@@ -1,5 +1,5 @@
 -- The list has the number of an entry that is found, or of one that is added.
-use Rattle.std.proofs.Common.{◌∷◌, ◌++◌, ◌<◌, ◌+◌, [], List, length, ap, subst, sym, ◌∙◌, arith}
+use Rattle.std.proofs.Common.{◌<◌, ◌+◌, List, length, ap, subst, sym, arith}
 use Rattle.hp_states.specs.Interned.{KeepNumbers, StandOnEarlier}
 use Rattle.hp_states.specs.Numbered.{IsInFront, entry_below, in_front, openings_of}
 use Rattle.hp_schedules.specs.Openings.{NumberedOpening}
@@ -19,7 +19,7 @@ pub invariant_of-self-2 : goal.invariant_of-self-2
 invariant_of-self-2 c =
     let e : Entry = record { op = c.args.op; state = c.args.state; below = c.args.below } in
     stand_added entry_below in_front c.self.inside.entries.items c.push_reserved.new.self.items e
-    (c.push_reserved.ensures.items ∙ ap (λ (entries : List Entry). entries ++ e ∷ []) c.reserve.ensures.items)
+    (rw c.reserve.ensures.items at c.push_reserved.ensures.items)
     c.self.invariant
     (subst (λ (lists : List (List NumberedOpening)). c.args.below < length lists) (sym c.self.view_is)
     c.requires)
@@ -31,8 +31,7 @@ returns-clause-kept c =
     (openings_of c.push_reserved.new.self.items))
     c.self.view_is
     (keep_added entry_below in_front c.self.inside.entries.items c.push_reserved.new.self.items e
-    (c.push_reserved.ensures.items
-    ∙ ap (λ (entries : List Entry). entries ++ e ∷ []) c.reserve.ensures.items))
+    (rw c.reserve.ensures.items at c.push_reserved.ensures.items))
 
 pub returns-clause-ok : goal.returns-clause-ok
 returns-clause-ok c =
@@ -41,6 +40,6 @@ returns-clause-ok c =
     IsInFront lists (openings_of c.push_reserved.new.self.items) c.args.op
     c.args.state c.args.below (c.len-number.result + 1)) c.self.view_is
     (front_added c.self.inside.entries.items c.push_reserved.new.self.items e (c.len-number.result + 1)
-    (c.push_reserved.ensures.items ∙ ap (λ (entries : List Entry). entries ++ e ∷ []) c.reserve.ensures.items)
+    (rw c.reserve.ensures.items at c.push_reserved.ensures.items)
     (omega
     (arith, c.len-number.ensures, ap (λ (entries : List Entry). length entries) c.reserve.ensures.items)))

@@ -1,5 +1,5 @@
 -- The shares and the ends have the row at their ends.
-use Rattle.std.proofs.Common.{◌++◌, ◌∷◌, [], List, ap, ◌∙◌, ℕ}
+use Rattle.std.proofs.Common.{◌++◌, ◌∷◌, [], List, ap, ◌∙◌}
 use Rattle.hp_schedules.specs.declared.trail.Share.{Share}
 use Rattle.hp_states.proofs.Joined.{texts_are, texts_on}
 use Rattle.hp_states.proofs.rows.Rows.push.Goals as goal
@@ -9,8 +9,7 @@ invariant_of-self-2 c =
     texts_on c.self.inside.shares.items c.args.row.now c.extend_from_slice.new.self.items
     c.self.inside.ends.items c.push_reserved.new.self.items c.len-end.result c.self.invariant
     c.in_ok-extend_from_slice.ensures.items
-    (c.push_reserved.ensures.items
-    ∙ ap (λ (ends : List ℕ). ends ++ c.len-end.result ∷ []) c.reserve.ensures.items)
+    (rw c.reserve.ensures.items at c.push_reserved.ensures.items)
     (c.len-end.ensures ∙ c.extend_from_slice.new.self.ok.0)
 
 pub returns-clause-ok : goal.returns-clause-ok
@@ -18,7 +17,6 @@ returns-clause-ok c =
     texts_are c.self.inside.shares.items c.args.row.now c.extend_from_slice.new.self.items
     c.self.inside.ends.items c.push_reserved.new.self.items c.len-end.result c.self.invariant
     c.in_ok-extend_from_slice.ensures.items
-    (c.push_reserved.ensures.items
-    ∙ ap (λ (ends : List ℕ). ends ++ c.len-end.result ∷ []) c.reserve.ensures.items)
+    (rw c.reserve.ensures.items at c.push_reserved.ensures.items)
     (c.len-end.ensures ∙ c.extend_from_slice.new.self.ok.0)
     ∙ ap (λ (rows : List (List Share)). rows ++ c.args.row.now ∷ []) c.self.view_is

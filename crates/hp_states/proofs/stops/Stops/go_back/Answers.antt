@@ -1,8 +1,7 @@
 -- The place before it on the way is known again.
-use Rattle.std.proofs.Common.{◌≡◌, ◌+◌, ◌∷◌, ◌++◌, [], MatchOption, Option, refl, subst, sym, vec_len, ◌∙◌}
+use Rattle.std.proofs.Common.{◌∷◌, ◌++◌, [], refl, subst, sym, ◌∙◌}
 use Rattle.std.proofs.lemmas.List.{nil_from_length}
 use Rattle.hp_states.specs.Stops.{AreStopsAt, StopsValue}
-use Rattle.hp_states.specs.declared.stops.Stop.{Stop}
 use Rattle.hp_states.proofs.StopNumbers.{went_back}
 use Rattle.hp_states.proofs.stops.Stops.go_back.Goals as goal
 
@@ -21,9 +20,6 @@ returns-clause-back c =
       here = c.unwrap_or-here.result;
       before = c.pop.new.self.items;
     }) c.pop.new.self.items c.pop.result refl refl c.pop.ensures.items
-    (λ none. let empty =
-    subst (λ (p : Option Stop). MatchOption p
-    ((vec_len c.self.inside.before ≡ 0) × (vec_len c.pop.new.self ≡ 0))
-    (λ _. vec_len c.pop.new.self + 1 ≡ vec_len c.self.inside.before)) none c.pop.ensures.cases in
+    (λ none. let empty = rw none at c.pop.ensures.cases in
     nil_from_length c.pop.new.self.items (sym c.pop.new.self.ok.0 ∙ empty.1))
     c.unwrap_or-here.ensures refl (subst (AreStopsAt at g (news ++ r ∷ [])) (sym c.self.view_is) are)

@@ -1,7 +1,5 @@
 -- The state has a number now.
-use Rattle.std.proofs.Common.{ℕ, Some, refl, subst, sym}
-use Rattle.hp_renumbering.specs.Renumbered.{renumbered}
-use Rattle.hp_states.specs.Codes.{IsCoded}
+use Rattle.std.proofs.Common.{Some, refl, subst, sym}
 use Rattle.hp_states.specs.Stops.{AreStopsAt, StopsValue}
 use Rattle.hp_states.proofs.StopNumbers.{coded_more, state_known}
 use Rattle.hp_states.proofs.stops.Stops.number_state.Goals as goal
@@ -21,8 +19,7 @@ returns-clause-here c =
       here = record { openings = c.self.inside.here.openings; state = Some c.in_ok-state.state };
       before = c.self.inside.before.items;
     }) c.args.memory.now c.in_ok-state.state c.number_of.ensures.kept refl refl refl
-    (subst (λ (p : ℕ → ℕ). IsCoded c.args.memory.now.layout c.number_of.new.self c.in_ok-state.state
-    (renumbered p c.args.memory.now.state)) (sym numbers) c.in_ok-state.ensures.ok) memory
+    (rw numbers c.in_ok-state.ensures.ok) memory
     (subst (AreStopsAt at g news) (sym c.self.view_is) are)
 
 pub returns-in_err-state-clause-here : goal.returns-in_err-state-clause-here

@@ -8,8 +8,7 @@ invariant_of-self-2 c =
     texts_on c.self.inside.bytes.items c.args.text.now c.extend_from_slice.new.self.items
     c.self.inside.ends.items c.push_reserved.new.self.items c.len.result c.self.invariant
     c.in_ok-extend_from_slice.ensures.items
-    (c.push_reserved.ensures.items
-    ∙ ap (λ (ends : List ℕ). ends ++ c.len.result ∷ []) c.reserve.ensures.items)
+    (rw c.reserve.ensures.items at c.push_reserved.ensures.items)
     (omega (arith, c.len.ensures))
 
 pub returns-clause-ok : goal.returns-clause-ok
@@ -17,8 +16,7 @@ returns-clause-ok c =
     texts_are c.self.inside.bytes.items c.args.text.now c.extend_from_slice.new.self.items
     c.self.inside.ends.items c.push_reserved.new.self.items c.len.result c.self.invariant
     c.in_ok-extend_from_slice.ensures.items
-    (c.push_reserved.ensures.items
-    ∙ ap (λ (ends : List ℕ). ends ++ c.len.result ∷ []) c.reserve.ensures.items)
+    (rw c.reserve.ensures.items at c.push_reserved.ensures.items)
     (omega (arith, c.len.ensures))
     ∙ ap (λ (texts : List (List ℕ)). texts ++ c.args.text.now ∷ []) c.self.view_is
 
