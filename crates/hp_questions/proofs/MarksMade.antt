@@ -1,12 +1,12 @@
 -- The marks of records, as they are written one by one.
-use Rattle.std.proofs.Common.{◌≡◌, ℕ, ◌+◌, ◌<◌, ◌≤◌, Bool, true, false, List, [], ◌∷◌, ◌++◌, length, map, Some, None, slice_get, refl, ap, sym, subst, ◌∙◌, arith, inl, inr}
+use Rattle.std.proofs.Common.{◌≡◌, ℕ, ◌+◌, ◌<◌, ◌≤◌, Bool, List, [], ◌∷◌, ◌++◌, length, map, Some, None, slice_get, refl, sym, subst, ◌∙◌, arith, inl, inr}
 use mir.Val.{bool_byte}
 use Rattle.std.specs.Prelude.{◌⊎◌, ◌↔◌, IsTrue}
 use Rattle.std.specs.List.{range_with_len}
 use Rattle.std.proofs.lemmas.Bool.{cases_lt}
 use Rattle.std.proofs.lemmas.List.{append_assoc, length_push}
 use Rattle.std.proofs.lemmas.List.FromFn.{map-range_with_len_more}
-use Rattle.std.proofs.lemmas.Option.{none-some, same_Some, slice_get_within}
+use Rattle.std.proofs.lemmas.Option.{same_Some, slice_get_within}
 use Rattle.hp_laws.proofs.Lists.{get_end, get_left}
 use Rattle.hp_units.specs.declared.replies.Record.{Record}
 use Rattle.hp_units.specs.declared.replies.Reply.{Reply}
@@ -30,16 +30,13 @@ pub told_at_some : (p : Pattern) (n : ℕ) (news : List Record) (cpu earlier : �
 told_at_some p n news cpu earlier answer told within is same = (
   λ yes. (replies_to cpu news, below_at n news cpu within, (answer, sym is, same.0 yes)),
   λ has. same.1 (subst (IsAsWanted p) (same_Some has.2.0 answer (sym has.2.1
-      ∙ (ap (λ (xs : List Reply). slice_get xs earlier) (below_is n news cpu has.0 has.1).1 ∙ sym is)))
-      has.2.2),
+      ∙ rw (is, (below_is n news cpu has.0 has.1).1))) has.2.2),
 )
 
 pub told_at_none : (p : Pattern) (n : ℕ) (news : List Record) (cpu earlier : ℕ)
     → None ≡ slice_get (replies_to cpu news) earlier
     → HasAnswerAt p (replies_below n news) cpu earlier → ⊥
-told_at_none p n news cpu earlier is has =
-    none-some has.2.0 (is
-    ∙ (ap (λ (xs : List Reply). slice_get xs earlier) (sym (below_is n news cpu has.0 has.1).1) ∙ has.2.1))
+told_at_none p n news cpu earlier is has = grind (arith, below_is)
 
 -- ---- the marks are made
 
@@ -49,19 +46,18 @@ pub calls_more : (news : List Record) (cpu : ℕ) (old mid new : List ℕ) (n : 
     → n ≡ length (replies_to cpu news)
     → new ≡ old ++ map (λ c. length (replies_to c news)) (range_with_len 0 (cpu + 1))
 calls_more news cpu old mid new n so_far is many =
-    is
-    ∙ (ap (λ (xs : List ℕ). xs ++ n ∷ []) so_far
-    ∙ (append_assoc old (map (λ c. length (replies_to c news)) (range_with_len 0 cpu)) (n ∷ [])
-    ∙ ap (λ (xs : List ℕ). old ++ xs)
-    (ap (λ (m : ℕ). map (λ c. length (replies_to c news)) (range_with_len 0 cpu) ++ m ∷ []) many
-    ∙ sym (map-range_with_len_more (λ (c : ℕ). length (replies_to c news)) 0 cpu cpu (omega arith)))))
+    rw (
+      is,
+      so_far,
+      many,
+      map-range_with_len_more (λ (c : ℕ). length (replies_to c news)) 0 cpu cpu
+          (omega arith),
+    ) (simp append_assoc)
 
 -- one wanted line more
 one_or_none : (P : Type 0) (told : Bool) (n : ℕ) → n ≡ bool_byte told → (IsTrue told ↔ P)
     → ((n ≡ 1) ↔ P) × ((n ≡ 0) ⊎ (n ≡ 1))
-one_or_none P true n is same = ((λ one. same.0 refl, λ p. is), inr is)
-one_or_none P false n is same =
-    ((λ one. absurd (omega (arith, is, one)), λ p. absurd (let no = same.1 p in cc)), inl is)
+one_or_none P told n is same = grind (arith, same)
 
 pub met_more : (cpus : ℕ) (scripts : List (List Step)) (wanted : List Wanted) (processors : ℕ)
     (news : List Record) (i : ℕ) (one : Wanted) (told : Bool) (n : ℕ) (old mid new : List ℕ)
@@ -72,7 +68,7 @@ pub met_more : (cpus : ℕ) (scripts : List (List Step)) (wanted : List Wanted) 
     → (met : List ℕ) × (new ≡ old ++ met) × AreMet cpus scripts wanted processors news (i + 1) met
 met_more cpus scripts wanted processors news i one told n old mid new here so_far is n_is same = (
   so_far.0 ++ n ∷ [],
-  is ∙ (ap (λ (xs : List ℕ). xs ++ n ∷ []) so_far.1 ∙ append_assoc old so_far.0 (n ∷ [])),
+  rw (is, so_far.1) (simp append_assoc),
   (
     omega (arith, length_push so_far.0 n, so_far.2.0),
     λ k other less at. by_place k other at (cases_lt k i) less,
@@ -89,16 +85,10 @@ met_more cpus scripts wanted processors news i one told n old mid new here so_fa
         let x = so_far.2.1 k other below at in
         (x.0, get_left so_far.0 (n ∷ []) k (slice_get_within so_far.0 k x.0 x.1) ∙ x.1, x.2, x.3)
     by_place k other at (inr past) less =
-        let place : length so_far.0 ≡ k = omega (arith, so_far.2.0, past, less) in
-        let index : i ≡ k = omega (arith, past, less) in
-        let same_line : one ≡ other =
-        same_Some one other (sym here ∙ (ap (slice_get wanted) index ∙ at)) in (
-          n,
-          ap (slice_get (so_far.0 ++ n ∷ [])) (sym place) ∙ get_end so_far.0 n,
-          subst (λ (w : Wanted). (n ≡ 1) ↔ HasLineSoFar cpus scripts processors news (line_of w))
-              same_line last.0,
-          last.1,
-        )
+        let place : k ≡ length so_far.0 = omega (arith, so_far.2.0, past, less) in
+        let index : k ≡ i = omega (arith, past, less) in
+        let same : other ≡ one = same_Some other one (sym at ∙ rw index here) in
+        (n, rw place (get_end so_far.0 n), rw same last.0, last.1)
 
 -- a list that is appended to another one
 pub marks_made : (cpus : ℕ) (scripts : List (List Step)) (wanted : List Wanted) (n : ℕ)
@@ -109,9 +99,6 @@ pub marks_made : (cpus : ℕ) (scripts : List (List Step)) (wanted : List Wanted
     → (marks : List ℕ) × (new ≡ old ++ marks) × AreMarks cpus scripts wanted n news marks
 marks_made cpus scripts wanted n news old all mid new counts met all_is mid_is is counted are = (
   length news ∷ (counts ++ met),
-  is
-      ∙ (ap (λ (xs : List ℕ). xs ++ met) (mid_is ∙ ap (λ (xs : List ℕ). xs ++ counts) all_is)
-      ∙ (append_assoc (old ++ length news ∷ []) counts met
-      ∙ append_assoc old (length news ∷ []) (counts ++ met))),
+  rw (is, mid_is, all_is) (simp append_assoc),
   record { counts = counts; met = met; parts = refl; counts_are = counted; met_are = are },
 )

@@ -1,5 +1,5 @@
 -- A line about plans is told by the ends that the replies give.
-use Rattle.std.proofs.Common.{◌≡◌, ℕ, List, Bool, Option, subst, sym}
+use Rattle.std.proofs.Common.{◌≡◌, ℕ, List, Bool, Option}
 use Rattle.std.specs.Prelude.{◌↔◌, IfOk, IsTrue, Result}
 use Rattle.hp_units.specs.declared.replies.Record.{Record}
 use Rattle.hp_units.specs.declared.replies.Reply.{Reply}
@@ -20,10 +20,7 @@ pub told_so_far : {E : Type 0} (r : Result Bool E) (cpus : ℕ) (scripts : List 
     → IfOk r (λ is. IsTrue is ↔ HasPlanEnd end (all_plan_ends cpus scripts all) cpu)
     → IfOk r (λ is. IsTrue is ↔ HasLineSoFar cpus scripts processors news line)
 told_so_far r cpus scripts processors news all line cpu end line_is all_is told =
-    subst (λ (x : EndLine). IfOk r (λ is. IsTrue is ↔ HasLineSoFar cpus scripts processors news x))
-    (sym line_is)
-    (subst (λ (xs : List (List Reply)). IfOk r (λ is. IsTrue is
-    ↔ HasPlanEnd end (all_plan_ends cpus scripts xs) cpu)) all_is told)
+    rw line_is (rw all_is at told)
 
 -- of an outcome
 pub told_of : {E : Type 0} (r : Result Bool E) (cpus : ℕ) (scripts : List (List Step)) (x : OutcomeValue)
@@ -31,7 +28,4 @@ pub told_of : {E : Type 0} (r : Result Bool E) (cpus : ℕ) (scripts : List (Lis
     → line ≡ Plan cpu end → all ≡ x.replies
     → IfOk r (λ is. IsTrue is ↔ HasPlanEnd end (all_plan_ends cpus scripts all) cpu)
     → IfOk r (λ is. IsTrue is ↔ HasLine cpus scripts x line)
-told_of r cpus scripts x all line cpu end line_is all_is told =
-    subst (λ (l : EndLine). IfOk r (λ is. IsTrue is ↔ HasLine cpus scripts x l)) (sym line_is)
-    (subst (λ (xs : List (List Reply)). IfOk r (λ is. IsTrue is
-    ↔ HasPlanEnd end (all_plan_ends cpus scripts xs) cpu)) all_is told)
+told_of r cpus scripts x all line cpu end line_is all_is told = rw line_is (rw all_is at told)

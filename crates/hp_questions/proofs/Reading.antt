@@ -1,20 +1,19 @@
 -- The ends of plans as they are read, reply by reply.
 use Rattle.std.proofs.Common.{◌≡◌, ℕ, ◌<◌, List, [], ◌∷◌, ◌++◌, length, get_or, Option, Some, None, slice_get, refl, ap, sym, ◌∙◌}
-use Rattle.std.specs.Option.{option_map_or, option_to_list}
+use Rattle.std.specs.Option.{option_to_list}
 use Rattle.std.proofs.lemmas.List.{append-nil, append_assoc}
 use Rattle.std.proofs.lemmas.List.Sums.{fold-append}
 use Rattle.std.proofs.lemmas.Option.{slice_get-get_or}
 use Rattle.hp_units.specs.Boot.{boot_memory}
 use Rattle.hp_units.specs.LayoutParts.{LayoutParts}
-use Rattle.hp_units.specs.Receipts.{receipt_of, receipts_of}
+use Rattle.hp_units.specs.Receipts.{receipts_of}
 use Rattle.hp_units.specs.declared.events.Event.{Event}
 use Rattle.hp_units.specs.declared.replies.OpEnd.{OpEnd}
-use Rattle.hp_units.specs.declared.replies.Receipt.{Receipt}
 use Rattle.hp_units.specs.declared.replies.Record.{Record}
 use Rattle.hp_units.specs.declared.replies.Reply.{Reply}
-use Rattle.hp_questions.specs.PlanEnds.{end_answered, end_finished, ends_answered, plan_ends, receipts_by, with_reply}
+use Rattle.hp_questions.specs.PlanEnds.{end_finished, ends_answered, plan_ends, receipts_by, with_reply}
 use Rattle.hp_schedules.specs.Cursors.{AreCursors, IsCalledFor}
-use Rattle.hp_schedules.specs.LineAnswers.{IsAnswered, answers_at, answers_in}
+use Rattle.hp_schedules.specs.LineAnswers.{IsAnswered, answers_at}
 use Rattle.hp_schedules.specs.Schedules.{Setting, next_call}
 use Rattle.hp_schedules.specs.Scripts.{next_of}
 use Rattle.hp_schedules.specs.declared.cursors.Cursor.{Cursor}
@@ -24,7 +23,6 @@ use Rattle.hp_schedules.specs.declared.line_answers.LineAnswer.{LineAnswer}
 use Rattle.hp_schedules.specs.declared.scripts.Step.{Step}
 use Rattle.hp_schedules.proofs.AnswersAt.{of_script}
 use Rattle.hp_schedules.proofs.LineAnswers.{none_begun}
-use Rattle.hp_schedules.proofs.Placed.{asked_is}
 use Rattle.hp_schedules.proofs.Steps.{receipts_own}
 
 -- ---- a setting for the scripts: any will do
@@ -84,10 +82,8 @@ read_none cpus scripts cpu cursors ends many begun none = record {
 asked_for : (cpus : ℕ) (scripts : List (List Step)) (cpu : ℕ) (news : List Record) (next : Option Event)
     → cpu < length scripts → next_call (setting_for cpus scripts) cpu news ≡ next
     → next_of cpus (get_or scripts cpu []) (receipts_of cpu news) ≡ next
-asked_for cpus scripts cpu news next within is =
-    sym (asked_is (setting_for cpus scripts) news cpus cpu (get_or scripts cpu [])
-    (next_of cpus (get_or scripts cpu []) (receipts_of cpu news)) refl
-    (slice_get-get_or scripts cpu [] within) refl) ∙ is
+unfolding next_call
+asked_for cpus scripts cpu news next within is = rw (slice_get-get_or scripts cpu [] within) at is
 
 -- the script is over
 pub read_past : (cpus : ℕ) (scripts : List (List Step)) (cpu : ℕ) (cursors : List Cursor)
@@ -97,47 +93,30 @@ pub read_past : (cpus : ℕ) (scripts : List (List Step)) (cpu : ℕ) (cursors :
     → AreCursors g news cursors → IsCalledFor g cpu news None)
     → IsRead cpus scripts cpu cursors news (replies ++ reply ∷ []) ends
 unfolding plan_ends
-read_past cpus scripts cpu cursors news replies ends reply within a asked = record {
-  many = a.many;
-  at = a.at;
-  receipts = a.receipts ∙ sym same;
-  ends_are = a.ends_are ∙ ap (λ (rs : List Receipt). ends_answered (answers_in cpus lines rs)) (sym same);
-}
+read_past cpus scripts cpu cursors news replies ends reply within a asked =
+    record { many = a.many; at = a.at; receipts = rw same a.receipts; ends_are = rw same a.ends_are }
   where
     lines : List Step
     lines = get_or scripts cpu []
 
     over : next_of cpus lines (receipts_by cpus lines replies) ≡ None
     over =
-        ap (next_of cpus lines) (sym a.receipts)
-        ∙ asked_for cpus scripts cpu news None within
-        (asked (setting_for cpus scripts) refl refl (a.at (setting_for cpus scripts) refl refl))
+        rw (← a.receipts) (asked_for cpus scripts cpu news None within
+        (asked (setting_for cpus scripts) refl refl (a.at (setting_for cpus scripts) refl refl)))
 
     same : receipts_by cpus lines (replies ++ reply ∷ []) ≡ receipts_by cpus lines replies
-    same =
-        fold-append (with_reply cpus lines) [] replies (reply ∷ [])
-        ∙ ap (λ (o : Option Event). option_map_or (λ event. receipts_by cpus lines replies
-        ++ record { serial = 0; event = event; reply = reply } ∷ []) o (receipts_by cpus lines replies)) over
+    same = rw (fold-append (with_reply cpus lines) [] replies (reply ∷ []), over)
 
 -- the ends with further answers, and with one more
 pub ends_append : (answers later : List (Option LineAnswer))
     → ends_answered (answers ++ later) ≡ ends_answered answers ++ ends_answered later
 ends_append [] later = refl
-ends_append (x ∷ answers) later =
-    ap (λ (ends : List OpEnd). option_to_list (end_answered x) ++ ends) (ends_append answers later)
-    ∙ sym (append_assoc (option_to_list (end_answered x)) (ends_answered answers) (ends_answered later))
-
-ends_push : (answers : List (Option LineAnswer)) (answer : Option LineAnswer)
-    → ends_answered (answers ++ answer ∷ []) ≡ ends_answered answers ++ option_to_list (end_answered answer)
-ends_push answers answer =
-    ends_append answers (answer ∷ [])
-    ∙ ap (λ (ends : List OpEnd). ends_answered answers ++ ends)
-    (append-nil (option_to_list (end_answered answer)))
+ends_append (x ∷ answers) later = simp (ends_append answers later, append_assoc)
 
 ends_more : (old new : List (Option LineAnswer)) (f : Option FinishedLine) → IsAnswered old f new
     → ends_answered new ≡ ends_answered old ++ option_to_list (end_finished f)
-ends_more old new None same = ap ends_answered same ∙ sym (append-nil (ends_answered old))
-ends_more old new (Some f) is = ap ends_answered is.1 ∙ ends_push old f.answer
+ends_more old new None same = rw (same, append-nil)
+ends_more old new (Some f) is = rw (is.1, ends_append old (f.answer ∷ []), append-nil)
 
 -- one call more
 pub read_more : (cpus : ℕ) (scripts : List (List Step)) (cpu : ℕ) (cursors later : List Cursor)
@@ -160,24 +139,19 @@ read_more cpus scripts cpu cursors later news replies ends new reply call event 
     on answered new_is = record {
       many = many ∙ a.many;
       at = λ g s c. on g news s c (a.at g s c) (asked g s c (a.at g s c));
-      receipts =
-          receipts_own news (called cpu event reply)
-          ∙ (ap (λ (rs : List Receipt). rs ++ receipt_of (called cpu event reply) ∷ []) a.receipts
-          ∙ sym longer);
+      receipts = receipts;
       ends_are =
-          new_is
-          ∙ (ap (λ (xs : List OpEnd). xs ++ option_to_list (end_finished f))
-          (a.ends_are ∙ (ap (λ (rs : List Receipt). ends_answered (answers_in cpus lines rs)) (sym a.receipts)
-          ∙ ap ends_answered (sym (of_script g cpu news lines here))))
-          ∙ (sym (ends_more (answers_at g cpu news)
-          (answers_at g cpu (news ++ called cpu event reply ∷ [])) f
+          rw (
+            new_is,
+            a.ends_are,
+            ← receipts,
+            ← a.receipts,
+            ← of_script g cpu news lines here,
+            ← of_script g cpu (news ++ called cpu event reply ∷ []) lines here,
+          )
+          (sym (ends_more (answers_at g cpu news) (answers_at g cpu (news ++ called cpu event reply ∷ [])) f
           (answered g news refl next (on g news refl refl (a.at g refl refl)
-          (asked g refl refl (a.at g refl refl)))))
-          ∙ (ap ends_answered (of_script g cpu (news ++ called cpu event reply ∷ []) lines here)
-          ∙ ap (λ (rs : List Receipt). ends_answered (answers_in cpus lines rs))
-          (receipts_own news (called cpu event reply)
-          ∙ (ap (λ (rs : List Receipt). rs ++ receipt_of (called cpu event reply) ∷ []) a.receipts
-          ∙ sym longer)))));
+          (asked g refl refl (a.at g refl refl))))));
     }
   where
     lines : List Step
@@ -190,12 +164,17 @@ read_more cpus scripts cpu cursors later news replies ends new reply call event 
     here = slice_get-get_or scripts cpu [] within
 
     next : next_call g cpu news ≡ Some event
-    next = (asked g refl refl (a.at g refl refl)).0 ∙ ap Some (sym event_is)
+    next = rw event_is (asked g refl refl (a.at g refl refl)).0
 
-    longer : receipts_by cpus lines (replies ++ reply ∷ [])
-        ≡ receipts_by cpus lines replies ++ receipt_of (called cpu event reply) ∷ []
-    longer =
-        fold-append (with_reply cpus lines) [] replies (reply ∷ [])
-        ∙ ap (λ (o : Option Event). option_map_or (λ e. receipts_by cpus lines replies
-        ++ record { serial = 0; event = e; reply = reply } ∷ []) o (receipts_by cpus lines replies))
-        (ap (next_of cpus lines) (sym a.receipts) ∙ asked_for cpus scripts cpu news (Some event) within next)
+    call_next : next_of cpus lines (receipts_by cpus lines replies) ≡ Some event
+    call_next = rw (← a.receipts) (asked_for cpus scripts cpu news (Some event) within next)
+
+    receipts : receipts_of cpu (news ++ called cpu event reply ∷ [])
+        ≡ receipts_by cpus lines (replies ++ reply ∷ [])
+    receipts =
+        rw (
+          receipts_own news (called cpu event reply),
+          a.receipts,
+          fold-append (with_reply cpus lines) [] replies (reply ∷ []),
+          call_next,
+        )

@@ -1,11 +1,10 @@
 -- In each interleaving a line with a name works on the result that the named line got there.
-use Rattle.std.proofs.Common.{◌≡◌, ℕ, ◌+◌, ◌==◌, Bool, true, false, if◌then◌else◌, List, [], ◌∷◌, ◌++◌, drop, take, length, Option, Some, None, get_or, slice_get, refl, ap, sym, subst, ◌∙◌, arith, append_assoc, append-nil}
-use Rattle.std.specs.Prelude.{◌&&◌, ◌||◌, option_and_then, option_map}
+use Rattle.std.proofs.Common.{◌≡◌, ℕ, ◌+◌, ◌==◌, Bool, true, false, if◌then◌else◌, List, [], ◌∷◌, ◌++◌, drop, take, length, Option, Some, None, slice_get, refl, ap, sym, ◌∙◌, arith, append_assoc, append-nil}
+use Rattle.std.specs.Prelude.{◌&&◌, ◌||◌, option_map}
 use Rattle.std.specs.List.{count_by}
-use Rattle.std.specs.Option.{option_flatten}
-use Rattle.std.proofs.lemmas.Bool.{eqb-true}
+use Rattle.std.proofs.lemmas.Bool.{and_parts, eqb-true}
 use Rattle.std.proofs.lemmas.List.{length-take, take-append-drop, take-append-le}
-use Rattle.std.proofs.lemmas.Option.{none-some, same_Some, slice_get_within}
+use Rattle.std.proofs.lemmas.Option.{option_and_then_some, same_Some, slice_get_within}
 use Rattle.hp_units.specs.Marks.{is_opening, mark_of}
 use Rattle.hp_units.specs.Receipts.{receipts_of}
 use Rattle.hp_units.specs.declared.events.Event.{Event}
@@ -16,13 +15,12 @@ use Rattle.hp_laws.proofs.Lists.{get_take}
 use Rattle.hp_scenario.specs.Asked as asks
 use Rattle.hp_scenario.specs.declared.lines.Line.{Line}
 use Rattle.hp_schedules.specs.Schedules.{Setting, next_call, plays}
-use Rattle.hp_schedules.specs.Scripts.{after_lines, frame_in, frames_of, known_of, next_in, next_of, no_frame, nothing_known, operations_of, step_work_of, takes_frame, work_of}
+use Rattle.hp_schedules.specs.Scripts.{frame_in, known_of, next_of, step_work_of, takes_frame, work_of}
 use Rattle.hp_schedules.specs.declared.scripts.OwnWork.{OwnWork}
 use Rattle.hp_schedules.specs.declared.scripts.OwnWork.TheVariants.{Latest, Nth, Free}
 use Rattle.hp_schedules.specs.declared.scripts.Step.{Step}
 use Rattle.hp_schedules.specs.declared.scripts.Step.TheVariants.{Ask, Own}
 use Rattle.hp_schedules.specs.declared.scripts.StepWork.{StepWork}
-use Rattle.hp_schedules.specs.declared.scripts.StepWork.TheVariants.{DrainFor, Migrate, Commit, Cancel}
 use Rattle.hp_schedules.proofs.Asked.{lines_here}
 use Rattle.hp_schedules.proofs.Placed.{asked_is}
 use Rattle.hp_starts.specs.Begins.{asked_begins, last_begun, line_begins}
@@ -30,7 +28,7 @@ use Rattle.hp_starts.specs.NamedResults.{AreOfLinesBefore, IsCallOf, event_on, s
 use Rattle.hp_starts.specs.Results.{asked_allocs, asked_on, asked_opens, is_free, line_allocs, line_opens, named_at, on_begun, work_in}
 use Rattle.hp_starts.specs.Scripts.{script_of, steps_in, steps_of}
 use Rattle.hp_starts.specs.declared.begins.Begin.{Begin}
-use Rattle.hp_starts.proofs.StepCounts.{AreCalled, next_past, step_allocs, step_begins}
+use Rattle.hp_starts.proofs.StepCounts.{next_past, step_allocs, step_begins}
 use Rattle.hp_starts.proofs.StepResults.{IsFound, found}
 use Rattle.hp_starts.proofs.Calls.{called_on}
 use Rattle.hp_starts.proofs.LineSteps.{Plainly, alloc_plainly, allocs_lines, begins_lines, begun_after, named_step, opening_plainly, plain_step, steps_counted, steps_split}
@@ -46,26 +44,9 @@ sourced : (cpu : ℕ) (lines : List Line) (sources : List (Option ℕ)) (place s
     (own : OwnWork) → slice_get sources place ≡ Some (Some source)
     → named_at cpu lines sources place (asks.event e) ≡ Some own → Sourced cpu lines place source e own
 sourced cpu lines sources place source e own src named =
-    by_line (slice_get (take place lines) source) refl
-  where
-    result : Line → Option OwnWork
-    result line = asked_on cpu (take place lines) source line (asks.event e)
-
-    is : option_and_then result (slice_get (take place lines) source) ≡ Some own
-    is =
-        sym (ap (λ (o : Option (Option ℕ)). option_and_then (λ (k : ℕ). option_and_then
-        (λ (line : Line). asked_on cpu (take place lines) k line (asks.event e))
-        (slice_get (take place lines) k)) (option_flatten o)) src) ∙ named
-
-    by_line : (o : Option Line) → slice_get (take place lines) source ≡ o
-        → Sourced cpu lines place source e own
-    by_line None none = absurd (none-some own (sym (ap (option_and_then result) none) ∙ is))
-    by_line (Some first) some =
-        record { first = first; there = some; works = sym (ap (option_and_then result) some) ∙ is }
-
-both : (a b : Bool) → (a && b) ≡ true → (a ≡ true) × (b ≡ true)
-both true b is = (refl, is)
-both false b is = absurd cc
+    option_and_then_some (λ (line : Line). asked_on cpu (take place lines) source line (asks.event e))
+    (slice_get (take place lines) source) own (rw src at named)
+    (λ first there works. record { first = first; there = there; works = works })
 
 opens_event : (m : asks.Meaning) → asked_opens m ≡ true
     → (e : Event) × (m ≡ asks.event e) × (is_opening (mark_of e) ≡ true)
@@ -152,20 +133,11 @@ laid cpus begins lines sources cpu place source line first event e own at mine a
 
 on_work : (e : Event) (w : StepWork) (call : Receipt) → work_in e ≡ Some w
     → step_work_of call.serial w ≡ event_on call e
-on_work (event.DrainFor op cpu) w call is =
-    ap (step_work_of call.serial) (sym (same_Some (DrainFor cpu) w is))
-on_work (event.Migrate op) w call is = ap (step_work_of call.serial) (sym (same_Some Migrate w is))
-on_work (event.Commit op) w call is = ap (step_work_of call.serial) (sym (same_Some Commit w is))
-on_work (event.Cancel op) w call is = ap (step_work_of call.serial) (sym (same_Some Cancel w is))
-on_work e w call is = absurd cc
+on_work e w call is = grind arith
 
 on_free : (e : Event) (call : Receipt) → is_free e ≡ true
     → event.KernelFree (frame_in call.reply) ≡ event_on call e
-on_free (event.KernelFree frame) call is = refl
-on_free e call is = absurd cc
-
-zero_is : (n : ℕ) → (n == 0) ≡ true → n ≡ 0
-zero_is n is = eqb-true n 0 is
+on_free e call is = grind arith
 
 on_operation : (cpus cpu : ℕ) (earlier : List Line) (source : ℕ) (front between : List Step)
     (event e : Event) (w : StepWork) (receipts : List Receipt) (f : IsFound cpus front between e receipts)
@@ -181,12 +153,9 @@ on_operation cpus cpu earlier source front between event e w receipts f opens wo
         else Nth (count_by (line_begins cpu) (take source earlier)) w)
         ≡ event_on f.first.own event
     by_none true is =
-        ap (λ (op : ℕ). step_work_of op w)
-        (f.latest opens (later ∙ zero_is (count_by (line_begins cpu) (drop (source + 1) earlier)) is))
-        ∙ on_work event w f.first.own works
-    by_none false is =
-        ap (λ (n : ℕ). step_work_of (get_or (operations_of receipts) n 0) w) (sym many)
-        ∙ (ap (λ (op : ℕ). step_work_of op w) (f.begun opens) ∙ on_work event w f.first.own works)
+        rw (f.latest opens (later ∙ eqb-true (count_by (line_begins cpu) (drop (source + 1) earlier)) 0 is))
+        (on_work event w f.first.own works)
+    by_none false is = rw (← many, f.begun opens) (on_work event w f.first.own works)
 
 on_frame : (cpus cpu : ℕ) (earlier : List Line) (source : ℕ) (front between : List Step)
     (works e : Event) (receipts : List Receipt) (f : IsFound cpus front between e receipts)
@@ -195,8 +164,7 @@ on_frame : (cpus cpu : ℕ) (earlier : List Line) (source : ℕ) (front between 
     → work_of (known_of receipts) (Free (count_by (line_allocs cpu) (take source earlier)))
     ≡ event_on f.first.own works
 on_frame cpus cpu earlier source front between works e receipts f takes frees many =
-    ap (λ (n : ℕ). event.KernelFree (get_or (frames_of receipts) n no_frame)) (sym many)
-    ∙ (ap (λ (frame : ℕ). event.KernelFree frame) (f.taken takes) ∙ on_free works f.first.own frees)
+    rw (← many, f.taken takes) (on_free works f.first.own frees)
 
 -- ---- the whole
 
@@ -227,18 +195,15 @@ called_by g schedule news begins lines sources cpu place source line first event
     let front = steps_before begins lines sources cpu source in
     let before = steps_before begins lines sources cpu place in
     let shape : script_of begins lines sources cpu ≡ front ++ Ask e ∷ (l.between ++ Own own ∷ l.rest) =
-    l.script_is ∙ (ap (λ (xs : List Step). xs ++ Own own ∷ l.rest) l.before_is
-    ∙ append_assoc front (Ask e ∷ l.between) (Own own ∷ l.rest)) in
+    rw (l.script_is, l.before_is) (append_assoc front (Ask e ∷ l.between) (Own own ∷ l.rest)) in
     let called = called_on g cpu (script_of begins lines sources cpu) here schedule [] news tt played in
     let f = found cpus front l.between (Own own ∷ l.rest) e receipts
-    (subst (λ (xs : List Step). AreCalled cpus xs receipts) shape called)
-    (subst (λ (xs : List Step). after_lines cpus nothing_known xs receipts ≡ Some []) l.before_is over) in
+    (rw shape at called) (rw l.before_is at over) in
     let next : next_call g cpu news ≡ Some (work_of known own) =
     asked_is g news cpus cpu (script_of begins lines sources cpu)
     (next_of cpus (script_of begins lines sources cpu) receipts) refl here refl
-    ∙ (ap (λ (xs : List Step). next_in cpus known xs receipts) l.script_is
-    ∙ (ap (next_in cpus known (before ++ Own own ∷ l.rest)) (sym (append-nil receipts))
-    ∙ next_past cpus known before (Own own ∷ l.rest) receipts [] over)) in (
+    ∙ rw l.script_is
+    (rw (append-nil receipts) at (next_past cpus known before (Own own ∷ l.rest) receipts [] over)) in (
       f.first.own,
       record {
         line = first;
@@ -290,9 +255,9 @@ named_call g schedule news begins lines sources cpu place source line event own 
     by_work : (o : Option StepWork) → work_in event ≡ o
         → option_map (on_begun cpu earlier source) o ≡ Some own → line_opens cpu s.first ≡ true
         → Called g news begins lines sources cpu source event
-    by_work None none is opens = absurd (none-some own is)
+    by_work None none is opens = absurd cc
     by_work (Some w) some is opens =
-        let parts = both (s.first.cpu == cpu) (asked_opens (asks.asked_by s.first.work)) opens in
+        let parts = and_parts (s.first.cpu == cpu) (asked_opens (asks.asked_by s.first.work)) opens in
         let e = opens_event (asks.asked_by s.first.work) parts.1 in
         by_source e.0 (eqb-true s.first.cpu cpu parts.0) e.1 (opening_plainly e.0 e.2)
         (λ l f. ap (work_of (known_of (receipts_of cpu news))) (sym (same_Some (on_begun cpu earlier source w)
@@ -307,7 +272,7 @@ named_call g schedule news begins lines sources cpu place source line event own 
         → (if a && b then Some (Free (count_by (line_allocs cpu) (take source earlier))) else None) ≡ Some own
         → Called g news begins lines sources cpu source event
     by_frees true true allocs frees is =
-        let parts = both (s.first.cpu == cpu) (asked_allocs (asks.asked_by s.first.work)) allocs in
+        let parts = and_parts (s.first.cpu == cpu) (asked_allocs (asks.asked_by s.first.work)) allocs in
         let e = allocs_event (asks.asked_by s.first.work) parts.1 in
         by_source e.0 (eqb-true s.first.cpu cpu parts.0) e.1 (alloc_plainly e.0 e.2)
         (λ l f. ap (work_of (known_of (receipts_of cpu news)))
@@ -316,8 +281,7 @@ named_call g schedule news begins lines sources cpu place source line event own 
         event e.0 (receipts_of cpu news) f e.2 frees
         (steps_counted takes_frame step_allocs asked_allocs allocs_lines cpu op false lines sources 0
         (take source lines) ∙ ap (count_by (line_allocs cpu)) (sym l.front_is)))
-    by_frees true false allocs frees is = absurd (none-some own is)
-    by_frees false b allocs frees is = absurd (none-some own is)
+    by_frees a b allocs frees is = absurd cc
 
     by_opens : (b : Bool) → line_opens cpu s.first ≡ b
         → (if b then option_map (on_begun cpu earlier source) (work_in event)

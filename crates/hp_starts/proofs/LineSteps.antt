@@ -1,8 +1,8 @@
 -- The steps that lines become: which lines are a step as they are, and how many there are of a kind.
 use Rattle.std.proofs.Common.{◌≡◌, ℕ, ◌+◌, ◌==◌, Bool, true, false, cond, if◌then◌else◌, List, [], ◌∷◌, ◌++◌, take, length, Option, Some, None, slice_get, refl, ap, sym, ◌∙◌, arith, append_assoc}
-use Rattle.std.specs.Prelude.{◌&&◌, ◌||◌, option_and_then, option_map}
+use Rattle.std.specs.Prelude.{◌&&◌, ◌||◌, option_and_then}
 use Rattle.std.specs.List.{count_by}
-use Rattle.std.specs.Option.{option_flatten, option_map_or}
+use Rattle.std.specs.Option.{option_flatten}
 use Rattle.std.proofs.lemmas.List.Sums.{sum_by-append}
 use Rattle.hp_units.specs.Marks.{is_opening, mark_of}
 use Rattle.hp_units.specs.declared.events.Event.{Event}
@@ -13,14 +13,13 @@ use Rattle.hp_scenario.specs.Asked as asks
 use Rattle.hp_scenario.specs.declared.lines.Line.{Line}
 use Rattle.hp_schedules.specs.Scripts.{step_work_of, takes_frame}
 use Rattle.hp_schedules.specs.declared.scripts.OwnWork.{OwnWork}
-use Rattle.hp_schedules.specs.declared.scripts.OwnWork.TheVariants.{Latest, Free}
+use Rattle.hp_schedules.specs.declared.scripts.OwnWork.TheVariants.{Latest}
 use Rattle.hp_schedules.specs.declared.scripts.Step.{Step}
 use Rattle.hp_schedules.specs.declared.scripts.Step.TheVariants.{Ask, Own, Carry}
 use Rattle.hp_schedules.specs.declared.scripts.StepWork.{StepWork}
-use Rattle.hp_schedules.specs.declared.scripts.StepWork.TheVariants.{DrainFor, Migrate, Commit, Cancel}
 use Rattle.hp_starts.specs.Begins.{asked_begins, line_begins}
-use Rattle.hp_starts.specs.Results.{asked_allocs, asked_on, is_free, line_allocs, line_opens, named_at, on_begun, work_in}
-use Rattle.hp_starts.specs.Scripts.{event_step, explored, own_work, step_for, steps_in, steps_of}
+use Rattle.hp_starts.specs.Results.{asked_allocs, asked_on, is_free, named_at, work_in}
+use Rattle.hp_starts.specs.Scripts.{event_step, explored, step_for, steps_in, steps_of}
 use Rattle.hp_starts.proofs.StepCounts.{counted_first, step_allocs, step_begins}
 
 -- ---- which work a line may do on a result
@@ -32,21 +31,7 @@ none_anyway f (Some x) none = none x
 
 no_result : (cpu : ℕ) (earlier : List Line) (source : ℕ) (line : Line) (e : Event) → work_in e ≡ None
     → is_free e ≡ false → asked_on cpu earlier source line (asks.event e) ≡ None
-no_result cpu earlier source line e work free = by_open (line_opens cpu line)
-  where
-    by_alloc : (b : Bool)
-        → (if b && is_free e then Some (Free (count_by (line_allocs cpu) (take source earlier)))
-        else None) ≡ None
-    by_alloc true = rw free refl
-    by_alloc false = refl
-
-    by_open : (b : Bool)
-        → (if b then option_map (on_begun cpu earlier source) (work_in e)
-        else (if line_allocs cpu line && is_free e
-        then Some (Free (count_by (line_allocs cpu) (take source earlier)))
-        else None)) ≡ None
-    by_open true = rw work refl
-    by_open false = by_alloc (line_allocs cpu line)
+no_result cpu earlier source line e work free = grind (arith, work, free)
 
 not_named : (cpu : ℕ) (lines : List Line) (sources : List (Option ℕ)) (place : ℕ) (e : Event)
     → work_in e ≡ None → is_free e ≡ false → named_at cpu lines sources place (asks.event e) ≡ None
@@ -122,15 +107,9 @@ begins_lines = record {
   not_taken_it = λ fault. refl;
   cat_it = λ path. refl;
   seal_it = refl;
-  work_it = work;
+  work_it = λ op w. grind arith;
   plain_it = opening_plainly;
 }
-  where
-    work : (op : ℕ) (w : StepWork) → is_opening (mark_of (step_work_of op w)) ≡ false
-    work op (DrainFor cpu) = refl
-    work op Migrate = refl
-    work op Commit = refl
-    work op Cancel = refl
 
 pub allocs_lines : CountsLines takes_frame step_allocs asked_allocs
 allocs_lines = record {
@@ -141,42 +120,19 @@ allocs_lines = record {
   not_taken_it = λ fault. refl;
   cat_it = λ path. refl;
   seal_it = refl;
-  work_it = work;
+  work_it = λ op w. grind arith;
   plain_it = alloc_plainly;
 }
-  where
-    work : (op : ℕ) (w : StepWork) → takes_frame (step_work_of op w) ≡ false
-    work op (DrainFor cpu) = refl
-    work op Migrate = refl
-    work op Commit = refl
-    work op Cancel = refl
 
 one_counted : (b c : Bool) → b ≡ c → 0 + cond b 1 0 ≡ cond c 1 0
-one_counted true c is = rw (← is) refl
-one_counted false c is = rw (← is) refl
+one_counted b c is = rw is (omega arith)
 
 -- one line
 step_counted : (q : Event → Bool) (s : Step → Bool) (m : asks.Meaning → Bool) (c : CountsLines q s m)
     (op : ℕ) (begun : Bool) (named : Option OwnWork) (e : Event) → (q e ≡ true → named ≡ None)
     → s (event_step op begun named e) ≡ q e
-step_counted q s m c op begun (Some w) e plain = by_it (q e) refl
-  where
-    by_it : (b : Bool) → q e ≡ b → s (Own w) ≡ q e
-    by_it true is = let no = plain is in absurd cc
-    by_it false is = c.owns_it w ∙ sym is
-step_counted q s m c op begun None e plain = by_it (q e) refl
-  where
-    by_begun : (b : Bool) (w : StepWork) → s (own_step op b w) ≡ false
-    by_begun true w = c.owns_it (Latest w)
-    by_begun false w = c.asks_it (step_work_of op w) ∙ c.work_it op w
-
-    by_work : (o : Option StepWork) → q e ≡ false → s (option_map_or (own_step op begun) o (Ask e)) ≡ false
-    by_work None is = c.asks_it e ∙ is
-    by_work (Some w) is = by_begun begun w
-
-    by_it : (b : Bool) → q e ≡ b → s (event_step op begun None e) ≡ q e
-    by_it true is = ap s ((c.plain_it e is).2 op begun) ∙ c.asks_it e
-    by_it false is = by_work (own_work e) is ∙ sym is
+step_counted q s m c op begun named e plain =
+    grind (arith, c.owns_it, c.asks_it, c.work_it, c.plain_it, plain)
 
 line_counted : (q : Event → Bool) (s : Step → Bool) (m : asks.Meaning → Bool) (c : CountsLines q s m)
     (cpu op : ℕ) (begun : Bool) (lines : List Line) (sources : List (Option ℕ)) (place : ℕ) (own : Bool)
@@ -208,12 +164,12 @@ steps_counted q s m c cpu op begun lines sources place (line ∷ left) =
     let meaning = asks.asked_by line.work in
     let first = steps_of (step_for cpu op begun (named_at cpu lines sources place meaning) line) in
     let rest = steps_in cpu op (begun || line_begins cpu line) lines sources (place + 1) left in
-    sum_by-append (λ (x : Step). cond (s x) 1 0) first rest
-    ∙ (ap (λ (n : ℕ). n + count_by s rest)
-    (line_counted q s m c cpu op begun lines sources place (line.cpu == cpu) meaning)
-    ∙ (ap (λ (n : ℕ). cond ((line.cpu == cpu) && m meaning) 1 0 + n)
-    (steps_counted q s m c cpu op (begun || line_begins cpu line) lines sources (place + 1) left)
-    ∙ sym (counted_first (λ (l : Line). (l.cpu == cpu) && m (asks.asked_by l.work)) line left)))
+    rw (
+      sum_by-append (λ (x : Step). cond (s x) 1 0) first rest,
+      line_counted q s m c cpu op begun lines sources place (line.cpu == cpu) meaning,
+      steps_counted q s m c cpu op (begun || line_begins cpu line) lines sources (place + 1) left,
+      counted_first (λ (l : Line). (l.cpu == cpu) && m (asks.asked_by l.work)) line left,
+    )
 
 -- ---- the steps of lines, and of further ones
 

@@ -1,6 +1,6 @@
 -- Lists of lines, one more after another.
-use Rattle.std.proofs.Common.{◌≡◌, ℕ, ◌+◌, ◌<◌, List, [], ◌∷◌, ◌++◌, length, get_or, take, Option, Some, None, refl, slice_get, sym, ap, subst, ◌∙◌, arith}
-use borrow.Author.Count.{below_more}
+use Rattle.std.proofs.Common.{◌≡◌, ℕ, ◌+◌, ◌<◌, List, [], ◌∷◌, ◌++◌, length, get_or, take, Option, Some, None, refl, slice_get, ◌∙◌, arith}
+use Rattle.std.proofs.lemmas.Bool.{cases_lt}
 use Rattle.std.proofs.lemmas.List.{take_more}
 use Rattle.std.proofs.lemmas.List.FromFn.{map-range_with_len_more}
 use Rattle.hp_machine.specs.Machine.{MachineValue}
@@ -19,16 +19,8 @@ use Rattle.hp_starts.specs.declared.begins.Begin.{Begin}
 one_more : (xs : List Line) (line : Line) (m mid new : MachineValue) (before so_far after : List Begin)
     (number : ℕ) → RunsLines m before xs mid so_far → RunsLine mid line new number
     → after ≡ so_far ++ begins_sealed mid line.work → RunsLines m before (xs ++ line ∷ []) new after
-one_more [] line m mid new before so_far after number ran w is = (
-  new,
-  number,
-  subst (λ (k : MachineValue). RunsLine k line new number) ran.0 w,
-  (
-    refl,
-    is ∙ (ap (λ (l : List Begin). l ++ begins_sealed mid line.work) ran.1
-        ∙ ap (λ (k : MachineValue). before ++ begins_sealed k line.work) ran.0),
-  ),
-)
+one_more [] line m mid new before so_far after number ran w is =
+    (new, number, rw ran.0 at w, (refl, rw (is, ran.1, ran.0)))
 one_more (x ∷ xs) line m mid new before so_far after number ran w is = (
   ran.0,
   ran.1,
@@ -42,8 +34,7 @@ pub lines_more : (xs : List Line) (i : ℕ) (line : Line) (m mid next : MachineV
     → after ≡ so_far ++ begins_sealed mid line.work → RunsLine mid line next number
     → RunsLines m before (take (i + 1) xs) next after
 lines_more xs i line m mid next before so_far after number lt ran is_at sealed one =
-    subst (λ (l : List Line). RunsLines m before l next after) (sym (take_more xs i line lt
-    ∙ ap (λ (x : Line). take i xs ++ x ∷ []) (sym is_at)))
+    rw (take_more xs i line lt, ← is_at)
     (one_more (take i xs) line m mid next before so_far after number ran one sealed)
 
 -- one more script
@@ -52,21 +43,12 @@ pub scripts_more : (all : List (List step.Step)) (script : List step.Step) (begi
     → all ≡ scripts_of cpu begins lines sources → script ≡ script_of begins lines sources cpu
     → all ++ script ∷ [] ≡ scripts_of (cpu + 1) begins lines sources
 scripts_more all script begins lines sources cpu so_far is =
-    ap (λ (xs : List (List step.Step)). xs ++ script ∷ []) so_far
-    ∙ (ap (λ (x : List step.Step). scripts_of cpu begins lines sources ++ x ∷ []) is
-    ∙ sym (map-range_with_len_more (script_of begins lines sources) 0 cpu cpu (omega arith)))
+    rw (so_far, is, map-range_with_len_more (script_of begins lines sources) 0 cpu cpu (omega arith))
 
 -- one more line can stand in a script
 pub fit_more : (cpus : ℕ) (lines : List Line) (i : ℕ) (line : Line)
     → AreFit cpus lines i → slice_get lines i ≡ Some line → unfit cpus line ≡ None → AreFit cpus lines (i + 1)
-fit_more cpus lines i line so_far here fits k other lt at =
-    below_more (λ (k : ℕ). (l : Line) → slice_get lines k ≡ Some l → unfit cpus l ≡ None) i
-    (λ j under l is. so_far j l under is) (λ l is. here_fits l is) k lt other at
-  where
-    here_fits : (l : Line) → slice_get lines i ≡ Some l → unfit cpus l ≡ None
-    here_fits l is =
-        let same : line ≡ l = cc (here, is) in
-        subst (λ (x : Line). unfit cpus x ≡ None) same fits
+fit_more cpus lines i line so_far here fits k other lt at = grind (arith, cases_lt k i, so_far k other)
 
 -- or this one is the first that cannot
 pub first_unfit : (cpus before : ℕ) (lines : List Line) (i place : ℕ) (line : Line) (fault : StartFault)

@@ -1,22 +1,20 @@
 -- How many calls of a kind the steps of a script make: as many as there are steps of that kind.
-use Rattle.std.proofs.Common.{◌≡◌, ℕ, ◌+◌, Bool, true, false, cond, List, [], ◌∷◌, ◌++◌, Option, Some, None, refl, ap, sym, subst, ◌∙◌, ◌⊎◌, inl, inr, arith, append_assoc, append-nil}
+use Rattle.std.proofs.Common.{◌≡◌, ℕ, ◌+◌, Bool, true, false, cond, List, [], ◌∷◌, ◌++◌, Some, None, refl, ap, sym, subst, ◌∙◌, ◌⊎◌, inl, inr, arith, append_assoc, append-nil}
 use Rattle.std.specs.List.{count_by}
-use Rattle.std.specs.Option.{option_and_then, option_map_or}
-use Rattle.std.proofs.lemmas.List.Sums.{sum_by-append}
-use Rattle.std.proofs.lemmas.Option.{none-some, same_Some}
+use Rattle.std.specs.Option.{option_and_then}
+use Rattle.std.proofs.lemmas.List.Sums.{sum_by-append, sum_by-cons}
+use Rattle.std.proofs.lemmas.Option.{same_Some}
 use Rattle.hp_units.specs.Driver.{next_after, next_event}
 use Rattle.hp_units.specs.Marks.{is_opening, mark_of}
 use Rattle.hp_units.specs.declared.events.Event.{Event}
-use Rattle.hp_units.specs.declared.events.Event.TheVariants.{Begin, DrainFor, Migrate, Commit, Cancel, KernelFree}
+use Rattle.hp_units.specs.declared.events.Event.TheVariants.{Begin}
 use Rattle.hp_units.specs.declared.plans.Item.{Item}
 use Rattle.hp_units.specs.declared.replies.Receipt.{Receipt}
 use Rattle.hp_ops.proofs.Receipts.{next_push}
 use Rattle.hp_schedules.specs.Scripts.{Known, after_line, after_lines, line_next, next_in, nothing_known, takes_frame, work_of}
 use Rattle.hp_schedules.specs.declared.scripts.OwnWork.{OwnWork}
-use Rattle.hp_schedules.specs.declared.scripts.OwnWork.TheVariants.{Latest, Nth, Free}
 use Rattle.hp_schedules.specs.declared.scripts.Step.{Step}
 use Rattle.hp_schedules.specs.declared.scripts.Step.TheVariants.{Ask, Own, Carry}
-use Rattle.hp_schedules.specs.declared.scripts.StepWork.TheVariants as step
 use Rattle.hp_schedules.proofs.AfterLines.{after_more, after_parts, any_known, first_then}
 use Rattle.hp_schedules.proofs.Begun.{IsPush, all_work, is_work, next_works, push_cases}
 use Rattle.hp_schedules.proofs.Lines.{goes_on, goes_on_all, over_now}
@@ -58,43 +56,19 @@ begins_count = record {
   asks = λ event. refl;
   owns = λ work. refl;
   carries = λ plan turns. refl;
-  works = work;
+  works = λ event is. grind arith;
 }
-  where
-    work : (event : Event) → is_work event ≡ true → is_opening (mark_of event) ≡ false
-    work (DrainFor op cpu) is = refl
-    work (Migrate op) is = refl
-    work (Commit op) is = refl
-    work (Cancel op) is = refl
-    work (KernelFree frame) is = refl
-    work event is = absurd cc
 
 pub allocs_count : Counts takes_frame step_allocs
 allocs_count = record {
   asks = λ event. refl;
   owns = λ work. refl;
   carries = λ plan turns. refl;
-  works = work;
+  works = λ event is. grind arith;
 }
-  where
-    work : (event : Event) → is_work event ≡ true → takes_frame event ≡ false
-    work (DrainFor op cpu) is = refl
-    work (Migrate op) is = refl
-    work (Commit op) is = refl
-    work (Cancel op) is = refl
-    work (KernelFree frame) is = refl
-    work event is = absurd cc
 
 work_works : (known : Known) (work : OwnWork) → is_work (work_of known work) ≡ true
-work_works known (Latest (step.DrainFor cpu)) = refl
-work_works known (Latest step.Migrate) = refl
-work_works known (Latest step.Commit) = refl
-work_works known (Latest step.Cancel) = refl
-work_works known (Nth nth (step.DrainFor cpu)) = refl
-work_works known (Nth nth step.Migrate) = refl
-work_works known (Nth nth step.Commit) = refl
-work_works known (Nth nth step.Cancel) = refl
-work_works known (Free nth) = refl
+work_works known work = grind arith
 
 later_works : (cpus turns : ℕ) (plan : List Item) (x : Receipt) (xs : List Receipt) (e : Event)
     → next_event cpus turns plan (x ∷ xs) ≡ Some e → is_work e ≡ true
@@ -104,8 +78,7 @@ later_works cpus turns plan x xs e is = by_push (push_cases (x ∷ xs))
     by_push (inl none) = absurd cc
     by_push (inr p) =
         let next : next_after cpus turns (p.front ++ p.last ∷ []) p.last.event p.last.reply ≡ Some e =
-        sym (next_push cpus turns plan p.front p.last)
-        ∙ (ap (λ (rs : List Receipt). next_event cpus turns plan rs) (sym p.list_is) ∙ is) in
+        rw (← next_push cpus turns plan p.front p.last, ← p.list_is) is in
         sym (ap all_work next) ∙ next_works cpus turns (p.front ++ p.last ∷ []) p.last.event p.last.reply
 
 -- ---- the calls of one step
@@ -121,15 +94,8 @@ CalledOn cpus line earlier (r ∷ rs) =
 goes_further : (cpus : ℕ) (line : Step) (earlier : List Receipt) (r : Receipt) (rs : List Receipt)
     → after_line cpus nothing_known line earlier (r ∷ rs) ≡ Some []
     → (e : Event) × (line_next cpus nothing_known line earlier ≡ Some e)
-goes_further cpus line earlier r rs over = by_next (line_next cpus nothing_known line earlier) refl
-  where
-    by_next : (o : Option Event) → line_next cpus nothing_known line earlier ≡ o
-        → (e : Event) × (line_next cpus nothing_known line earlier ≡ Some e)
-    by_next None none =
-        let same : (r ∷ rs) ≡ [] =
-        same_Some (r ∷ rs) [] (sym (over_now cpus nothing_known line earlier (r ∷ rs) none) ∙ over) in
-        absurd cc
-    by_next (Some e) some = (e, some)
+goes_further cpus line earlier r rs over =
+    grind (arith, over_now cpus nothing_known line earlier (r ∷ rs))
 
 on_line : (cpus : ℕ) (line : Step) (lines : List Step) (earlier own : List Receipt)
     → ((xs : List Receipt) → after_line cpus nothing_known line [] (earlier ++ xs)
@@ -144,11 +110,8 @@ on_line cpus line lines earlier (r ∷ rs) joins called over =
     let on_yet : after_line cpus known line [] earlier ≡ None =
     any_known cpus known line [] earlier
     ∙ (ap (after_line cpus nothing_known line []) (sym (append-nil earlier))
-    ∙ (joins [] ∙ goes_on_all cpus nothing_known line earlier on.0 on.1)) in
-    let asked : line_next cpus known line earlier ≡ Some r.event =
-    sym (ap (λ (o : Option (List Receipt)). option_map_or (λ rest. next_in cpus known lines rest) o
-    (line_next cpus known line earlier)) on_yet) ∙ called.0.1 in (
-      (known, asked),
+    ∙ (joins [] ∙ goes_on_all cpus nothing_known line earlier on.0 on.1)) in (
+      (known, rw on_yet at called.0.1),
       on_line cpus line lines (earlier ++ r ∷ []) rs
           (λ xs. ap (after_line cpus nothing_known line []) (append_assoc earlier (r ∷ []) xs)
           ∙ (joins (r ∷ xs) ∙ goes_on cpus nothing_known line earlier r xs on.0 on.1))
@@ -171,44 +134,29 @@ later_none q s c cpus line x earlier (r ∷ rs) called =
 -- the first one is, if the step is
 first_counted : (q : Event → Bool) (s : Step → Bool) (c : Counts q s) (cpus : ℕ) (known : Known)
     (line : Step) (event : Event) → line_next cpus known line [] ≡ Some event → q event ≡ s line
-first_counted q s c cpus known (Ask e) event is =
-    let same = same_Some e event is in sym (c.asks e ∙ ap q same)
+first_counted q s c cpus known (Ask e) event is = rw (← same_Some e event is) (sym (c.asks e))
 first_counted q s c cpus known (Own work) event is =
-    let same = same_Some (work_of known work) event is in
-    sym (ap q same) ∙ (c.works (work_of known work) (work_works known work) ∙ sym (c.owns work))
+    rw (← same_Some (work_of known work) event is, c.owns work)
+    (c.works (work_of known work) (work_works known work))
 first_counted q s c cpus known (Carry plan turns) event is =
-    let same = same_Some (Begin plan) event is in sym (c.carries plan turns ∙ ap q same)
+    rw (← same_Some (Begin plan) event is) (sym (c.carries plan turns))
 
 pub counted_first : {X : Type 0} (p : X → Bool) (x : X) (xs : List X)
     → count_by p (x ∷ xs) ≡ cond (p x) 1 0 + count_by p xs
-counted_first p x xs =
-    sum_by-append (λ y. cond (p y) 1 0) (x ∷ []) xs
-    ∙ ap (λ (n : ℕ). n + count_by p xs) (nothing_more (cond (p x) 1 0))
-  where
-    nothing_more : (n : ℕ) → 0 + n ≡ n
-    nothing_more n = omega arith
-
-begins_somehow : (cpus : ℕ) (line : Step) → (e : Event) × (line_next cpus nothing_known line [] ≡ Some e)
-begins_somehow cpus (Ask event) = (event, refl)
-begins_somehow cpus (Own work) = (work_of nothing_known work, refl)
-begins_somehow cpus (Carry plan turns) = (Begin plan, refl)
+counted_first p x xs = sum_by-cons (λ y. cond (p y) 1 0) x xs
 
 own_count : (q : Event → Bool) (s : Step → Bool) (c : Counts q s) (cpus : ℕ) (line : Step)
     (own : List Receipt) → CalledOn cpus line [] own → after_line cpus nothing_known line [] own ≡ Some []
     → count_by (λ (r : Receipt). q r.event) own ≡ cond (s line) 1 0
-own_count q s c cpus line [] called over =
-    let on = begins_somehow cpus line in
-    absurd (none-some [] (sym (goes_on_all cpus nothing_known line [] on.0 on.1) ∙ over))
+own_count q s c cpus (Ask event) [] called over = absurd cc
+own_count q s c cpus (Own work) [] called over = absurd cc
+own_count q s c cpus (Carry plan turns) [] called over = absurd cc
 own_count q s c cpus line (r ∷ rs) called over =
-    let is = first_counted q s c cpus called.0.0 line r.event called.0.1 in
-    let none = later_none q s c cpus line r [] rs called.1 in
-    counted_first (λ (x : Receipt). q x.event) r rs
-    ∙ (ap (λ (n : ℕ). cond (q r.event) 1 0 + n) none
-    ∙ (ap (λ (b : Bool). cond b 1 0 + 0) is ∙ by_step (s line)))
-  where
-    by_step : (b : Bool) → cond b 1 0 + 0 ≡ cond b 1 0
-    by_step true = refl
-    by_step false = refl
+    rw (
+      counted_first (λ (x : Receipt). q x.event) r rs,
+      later_none q s c cpus line r [] rs called.1,
+      first_counted q s c cpus called.0.0 line r.event called.0.1,
+    ) (omega arith)
 
 -- ---- the calls of several steps
 
@@ -217,28 +165,23 @@ pub called_later : (cpus : ℕ) (lines : List Step) (earlier own later : List Re
     → AreCalledAfter cpus lines earlier (own ++ later)
     → AreCalledAfter cpus lines earlier own × AreCalledAfter cpus lines (earlier ++ own) later
 called_later cpus lines earlier [] later called =
-    (tt, subst (λ (rs : List Receipt). AreCalledAfter cpus lines rs later) (sym (append-nil earlier)) called)
+    (tt, rw (append-nil earlier) called)
 called_later cpus lines earlier (r ∷ rs) later called =
-    let rest = called_later cpus lines (earlier ++ r ∷ []) rs later called.1 in (
-      (called.0, rest.0),
-      subst (λ (xs : List Receipt). AreCalledAfter cpus lines xs later)
-          (append_assoc earlier (r ∷ []) rs) rest.1,
-    )
+    let rest = called_later cpus lines (earlier ++ r ∷ []) rs later called.1 in
+    ((called.0, rest.0), rw append_assoc at rest.1)
 
 -- after the receipts of the first lines, the further ones call
 pub next_past : (cpus : ℕ) (known : Known) (lines others : List Step) (past later : List Receipt)
     → after_lines cpus nothing_known lines past ≡ Some []
     → next_in cpus known (lines ++ others) (past ++ later) ≡ next_in cpus known others later
-next_past cpus known [] others past later over =
-    ap (λ (rs : List Receipt). next_in cpus known others (rs ++ later)) (same_Some past [] over)
+next_past cpus known [] others past later over = rw (same_Some past [] over)
 next_past cpus known (line ∷ lines) others past later over =
     let f = first_then cpus nothing_known line lines past [] over in
-    let here : after_line cpus known line [] (past ++ later) ≡ Some (f.left ++ later) =
-    any_known cpus known line [] (past ++ later)
-    ∙ after_more cpus nothing_known line [] past later f.left f.first in
-    ap (λ (o : Option (List Receipt)). option_map_or (λ rest. next_in cpus known (lines ++ others) rest) o
-    (line_next cpus known line (past ++ later))) here
-    ∙ next_past cpus known lines others f.left later f.others
+    rw (
+      any_known cpus known line [] (past ++ later),
+      after_more cpus nothing_known line [] past later f.left f.first,
+    )
+    (next_past cpus known lines others f.left later f.others)
 
 pub called_past : (cpus : ℕ) (lines others : List Step) (past earlier receipts : List Receipt)
     → after_lines cpus nothing_known lines past ≡ Some []
@@ -246,10 +189,8 @@ pub called_past : (cpus : ℕ) (lines others : List Step) (past earlier receipts
     → AreCalledAfter cpus others earlier receipts
 called_past cpus lines others past earlier [] over called = tt
 called_past cpus lines others past earlier (r ∷ rs) over called = (
-  (called.0.0, sym (next_past cpus called.0.0 lines others past earlier over) ∙ called.0.1),
-  called_past cpus lines others past (earlier ++ r ∷ []) rs over
-      (subst (λ (xs : List Receipt). AreCalledAfter cpus (lines ++ others) xs rs)
-      (append_assoc past earlier (r ∷ [])) called.1),
+  (called.0.0, rw (next_past cpus called.0.0 lines others past earlier over) at called.0.1),
+  called_past cpus lines others past (earlier ++ r ∷ []) rs over (rw (append_assoc past earlier) at called.1),
 )
 
 -- so many of them are counted as steps are
@@ -258,7 +199,7 @@ pub lines_count : (q : Event → Bool) (s : Step → Bool) (c : Counts q s) (cpu
     → after_lines cpus nothing_known lines receipts ≡ Some []
     → count_by (λ (r : Receipt). q r.event) receipts ≡ count_by s lines
 lines_count q s c cpus [] others receipts called over =
-    ap (count_by (λ (r : Receipt). q r.event)) (same_Some receipts [] over)
+    rw (same_Some receipts [] over)
 lines_count q s c cpus (line ∷ lines) others receipts called over =
     let f = first_then cpus nothing_known line lines receipts [] over in
     let p = after_parts cpus nothing_known line [] receipts f.left f.first in
@@ -270,9 +211,11 @@ lines_count q s c cpus (line ∷ lines) others receipts called over =
     ap (option_and_then (λ (xs : List Receipt). after_lines cpus nothing_known [] xs)) p.over in
     let rest = lines_count q s c cpus lines others f.left
     (called_past cpus (line ∷ []) (lines ++ others) p.own [] f.left once
-    (subst (λ (xs : List Receipt). AreCalledAfter cpus (line ∷ (lines ++ others)) xs f.left)
-    (sym (append-nil p.own)) parts.1)) f.others in
-    ap (count_by (λ (r : Receipt). q r.event)) p.whole
-    ∙ (sum_by-append (λ (r : Receipt). cond (q r.event) 1 0) p.own f.left
-    ∙ (ap (λ (n : ℕ). n + count_by (λ (r : Receipt). q r.event) f.left) first
-    ∙ (ap (λ (n : ℕ). cond (s line) 1 0 + n) rest ∙ sym (counted_first s line lines))))
+    (rw (append-nil p.own) parts.1)) f.others in
+    rw (
+      p.whole,
+      sum_by-append (λ (r : Receipt). cond (q r.event) 1 0) p.own f.left,
+      first,
+      rest,
+      counted_first s line lines,
+    )

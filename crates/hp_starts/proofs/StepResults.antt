@@ -1,8 +1,8 @@
 -- The results of the steps of a script, in the receipts of its processor.
-use Rattle.std.proofs.Common.{◌≡◌, ℕ, suc, ◌+◌, Bool, true, false, cond, List, [], ◌∷◌, ◌++◌, Some, get_or, map, filter, fold, refl, ap, sym, subst, ◌∙◌, arith, append-nil}
+use Rattle.std.proofs.Common.{◌≡◌, ℕ, Bool, true, List, [], ◌∷◌, ◌++◌, Some, get_or, map, filter, fold, refl, ap, sym, subst, ◌∙◌, arith, append-nil}
 use Rattle.std.specs.List.{count_by}
 use Rattle.std.proofs.lemmas.List.Sums.{fold-append}
-use Rattle.std.proofs.lemmas.Option.{none-some, same_Some}
+use Rattle.std.proofs.lemmas.Option.{same_Some}
 use Rattle.hp_units.specs.Marks.{is_opening, mark_of}
 use Rattle.hp_units.specs.declared.events.Event.{Event}
 use Rattle.hp_units.specs.declared.replies.Receipt.{Receipt}
@@ -11,7 +11,7 @@ use Rattle.hp_schedules.specs.declared.scripts.Step.{Step}
 use Rattle.hp_schedules.specs.declared.scripts.Step.TheVariants.{Ask}
 use Rattle.hp_schedules.proofs.AfterLines.{after_parts, first_then, lines_before, lines_parts}
 use Rattle.hp_schedules.proofs.Lines.{over_now}
-use Rattle.hp_starts.proofs.StepCounts.{AreCalled, AreCalledAfter, allocs_count, begins_count, called_later, called_past, counted_first, lines_count, step_allocs, step_begins}
+use Rattle.hp_starts.proofs.StepCounts.{AreCalled, allocs_count, begins_count, called_later, called_past, counted_first, lines_count, step_allocs, step_begins}
 
 -- ---- what is found
 
@@ -39,32 +39,11 @@ pub record IsFound (cpus : ℕ) (front between : List Step) (event : Event) (rec
 
 -- ---- a list with one that is counted
 
-one_more : (n : ℕ) → 1 + n ≡ suc n
-one_more n = omega arith
-
-none_more : (n : ℕ) → 0 + n ≡ n
-none_more n = omega arith
-
 nth_there : (p : Receipt → Bool) (f : Receipt → ℕ) (past later : List Receipt) (r : Receipt) (none : ℕ)
     → p r ≡ true → get_or (map f (filter p (past ++ r ∷ later))) (count_by p past) none ≡ f r
-nth_there p f [] later r none is = first (p r) is
-  where
-    first : (b : Bool) → b ≡ true
-        → get_or (map f (cond b (r ∷ filter p later) (filter p later))) 0 none ≡ f r
-    first true e = refl
-    first false e = absurd cc
+nth_there p f [] later r none is = rw is
 nth_there p f (x ∷ past) later r none is =
-    ap (λ (n : ℕ). get_or (map f (filter p (x ∷ (past ++ r ∷ later)))) n none) (counted_first p x past)
-    ∙ by_first (p x) (nth_there p f past later r none is)
-  where
-    more : List Receipt
-    more = filter p (past ++ r ∷ later)
-
-    by_first : (b : Bool) → get_or (map f more) (count_by p past) none ≡ f r
-        → get_or (map f (cond b (x ∷ more) more)) (cond b 1 0 + count_by p past) none ≡ f r
-    by_first true rest =
-        ap (λ (n : ℕ). get_or (f x ∷ map f more) n none) (one_more (count_by p past)) ∙ rest
-    by_first false rest = ap (λ (n : ℕ). get_or (map f more) n none) (none_more (count_by p past)) ∙ rest
+    grind (arith, counted_first p x past, nth_there p f past later r none is)
 
 -- after it, none that begins an operation
 latest_stays : (op : ℕ) (rs : List Receipt)
@@ -72,29 +51,17 @@ latest_stays : (op : ℕ) (rs : List Receipt)
     → fold later_operation op rs ≡ op
 latest_stays op [] none = refl
 latest_stays op (r ∷ rs) none =
-    let sum = sym (counted_first (λ (x : Receipt). is_opening (mark_of x.event)) r rs) ∙ none in
-    by_first (is_opening (mark_of r.event)) refl sum (λ rest. latest_stays op rs rest)
-  where
-    by_first : (b : Bool) → is_opening (mark_of r.event) ≡ b
-        → cond b 1 0 + count_by (λ (x : Receipt). is_opening (mark_of x.event)) rs ≡ 0
-        → (count_by (λ (x : Receipt). is_opening (mark_of x.event)) rs ≡ 0 → fold later_operation op rs ≡ op)
-        → fold later_operation op (r ∷ rs) ≡ op
-    by_first true is sum rest = absurd (omega (arith, sum))
-    by_first false is sum rest = rw is (rest (omega (arith, sum)))
+    grind (arith, counted_first (λ (x : Receipt). is_opening (mark_of x.event)) r rs, latest_stays op rs)
 
 -- ---- the step after `front`
 
 -- a step that asks for an event takes one receipt
-record TakesOne (event : Event) (own : List Receipt) : Type 0 where
-  one : Receipt
-  own_is : own ≡ one ∷ []
-
 takes_one : (cpus : ℕ) (event : Event) (own : List Receipt)
-    → after_line cpus nothing_known (Ask event) [] own ≡ Some [] → TakesOne event own
-takes_one cpus event [] over = absurd (none-some [] over)
+    → after_line cpus nothing_known (Ask event) [] own ≡ Some [] → (one : Receipt) × (own ≡ one ∷ [])
+takes_one cpus event [] over = absurd cc
 takes_one cpus event (r ∷ rs) over =
     let left = sym (over_now cpus nothing_known (Ask event) (r ∷ []) rs refl) ∙ over in
-    record { one = r; own_is = ap (λ (xs : List Receipt). r ∷ xs) (same_Some rs [] left) }
+    (r, ap (λ (xs : List Receipt). r ∷ xs) (same_Some rs [] left))
 
 -- what is known of the receipts of the steps: those of `front`, then the one, then those in between
 record Parted (cpus : ℕ) (front between later : List Step) (event : Event) (receipts : List Receipt)
@@ -117,11 +84,11 @@ parted cpus front between later event receipts over =
     let t = takes_one cpus event o.own o.over in
     record {
       past = p.own;
-      one = t.one;
+      one = t.0;
       rest = f.left;
       whole =
           p.whole ∙ ap (λ (xs : List Receipt). p.own ++ xs)
-          (o.whole ∙ ap (λ (xs : List Receipt). xs ++ f.left) t.own_is);
+          (o.whole ∙ ap (λ (xs : List Receipt). xs ++ f.left) t.1);
       past_over = p.over;
       rest_over = f.others;
     }
@@ -140,8 +107,7 @@ found cpus front between later event receipts called over =
     let taken = lines_count takes_frame step_allocs allocs_count cpus front
     (Ask event ∷ (between ++ later)) p.past parts.0 p.past_over in
     let here = called_past cpus front (Ask event ∷ (between ++ later)) p.past [] (p.one ∷ p.rest) p.past_over
-    (subst (λ (xs : List Receipt). AreCalledAfter cpus script xs (p.one ∷ p.rest))
-    (sym (append-nil p.past)) parts.1) in
+    (rw (append-nil p.past) parts.1) in
     let asked : p.one.event ≡ event = same_Some p.one.event event (sym here.0.1) in
     let once : after_lines cpus nothing_known (Ask event ∷ []) (p.one ∷ []) ≡ Some [] = refl in
     let after = called_past cpus (Ask event ∷ []) (between ++ later) (p.one ∷ []) [] p.rest once here.1 in
@@ -158,21 +124,18 @@ found cpus front between later event receipts called over =
       asked = asked;
       begun = λ opening.
           ap (λ (rs : List Receipt). get_or (operations_of rs) (count_by step_begins front) 0) p.whole
-          ∙ (ap (λ (n : ℕ). get_or (operations_of (p.past ++ p.one ∷ p.rest)) n 0) (sym begun)
-          ∙ nth_there (λ r. is_opening (mark_of r.event)) (λ r. r.serial) p.past p.rest p.one 0
-          (ap (λ (e : Event). is_opening (mark_of e)) asked ∙ opening));
+          ∙ rw (← begun) (nth_there (λ r. is_opening (mark_of r.event)) (λ r. r.serial) p.past p.rest p.one 0
+          (rw asked opening));
       latest = λ opening none.
           ap own_operation p.whole
           ∙ (fold-append later_operation 0 p.past (p.one ∷ p.rest)
           ∙ (ap (λ (op : ℕ). fold later_operation op p.rest)
-          (last_begins (fold later_operation 0 p.past) p.one
-          (ap (λ (e : Event). is_opening (mark_of e)) asked ∙ opening))
+          (last_begins (fold later_operation 0 p.past) p.one (rw asked opening))
           ∙ latest_stays p.one.serial p.rest (between_begun ∙ none)));
       taken = λ takes.
           ap (λ (rs : List Receipt). get_or (frames_of rs) (count_by step_allocs front) no_frame) p.whole
-          ∙ (ap (λ (n : ℕ). get_or (frames_of (p.past ++ p.one ∷ p.rest)) n no_frame) (sym taken)
-          ∙ nth_there (λ r. takes_frame r.event) (λ r. frame_in r.reply) p.past p.rest p.one no_frame
-          (ap takes_frame asked ∙ takes));
+          ∙ rw (← taken) (nth_there (λ r. takes_frame r.event) (λ r. frame_in r.reply) p.past p.rest p.one
+          no_frame (rw asked takes));
     }
   where
     last_begins : (op : ℕ) (r : Receipt) → is_opening (mark_of r.event) ≡ true

@@ -1,6 +1,5 @@
 -- Only processors below the number have replies at the end.
-use Rattle.std.proofs.Common.{Option, ℕ, arith, subst, sym}
-use Rattle.std.specs.Prelude.{◌↔◌, IsTrue}
+use Rattle.std.proofs.Common.{arith, subst}
 use Rattle.hp_schedules.specs.Outcomes.{replies_below, replies_to}
 use Rattle.hp_questions.specs.Wanted.{HasAnswer, HasReply}
 use Rattle.hp_questions.proofs.Below.{told_no}
@@ -11,9 +10,7 @@ pub returns-then-cpu-processors : goal.returns-then-cpu-processors
 returns-then-cpu-processors c =
     told_no (HasAnswer c.args.reply.now (replies_below c.args.processors c.args.records.now) c.args.cpu)
     (λ all.
-    let has =
-    subst (HasAnswer c.args.reply.now (replies_below c.args.processors c.args.records.now)) c.in-Some.is
-    all in
+    let has = rw c.in-Some.is at all in
     let is = below_is c.args.processors c.args.records.now c.in-Some.cpu has.0 has.1 in
     omega (arith, is.0, c.if-cpu-processors.true, c.cpu.view_is))
 
@@ -22,8 +19,7 @@ returns-else-cpu-processors c =
     let n = c.args.processors in
     let news = c.args.records.now in
     let cpu = c.in-Some.cpu in
-    subst (λ (o : Option ℕ). IsTrue c.is_told.result ↔ HasAnswer c.args.reply.now (replies_below n news) o)
-    (sym c.in-Some.is) (
+    rw c.in-Some.is (
       λ yes. (
         replies_to cpu news,
         below_at n news cpu (omega (arith, c.if-cpu-processors.false, c.cpu.view_is)),

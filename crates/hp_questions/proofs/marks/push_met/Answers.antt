@@ -1,8 +1,4 @@
 -- One line more.
-use Rattle.std.proofs.Common.{subst}
-use Rattle.std.specs.Prelude.{◌↔◌, IsTrue}
-use Rattle.hp_questions.specs.Marks.{HasLineSoFar}
-use Rattle.hp_questions.specs.declared.wanted.EndLine.{EndLine}
 use Rattle.hp_questions.proofs.Below.{read_here}
 use Rattle.hp_questions.proofs.MarksMade.{met_more}
 use Rattle.hp_questions.proofs.marks.push_met.Goals as goal
@@ -15,6 +11,4 @@ loop-index-preserved c =
     (read_here c.args.wanted.now c.loop-index.index c.index-wanted-index.result c.loop-index-test.true
     c.index-wanted-index.is)
     c.loop-index.invariant c.in_ok-push.ensures.items c.from.ensures
-    (subst (λ (line : EndLine). IsTrue c.in_ok-is_met.is_met
-    ↔ HasLineSoFar c.args.cpus c.args.scripts.now c.args.processors c.args.records.now line)
-    c.line_of-line.ensures c.in_ok-is_met.ensures)
+    (rw c.line_of-line.ensures at c.in_ok-is_met.ensures)

@@ -1,4 +1,4 @@
-use Rattle.std.proofs.Common.{◌≡◌, ◌∙◌, ℕ, true, List, ◌++◌, codes, drop, Option, option_map, ap, rules}
+use Rattle.std.proofs.Common.{◌≡◌, ℕ, true, List, ◌++◌, codes, drop, Option, option_map, ap, rules}
 use Rattle.std.specs.List.{starts_with}
 use Rattle.std.specs.Prelude.{nat_eq}
 use Rattle.std.proofs.lemmas.Result.{IfOk-weaker}
@@ -13,8 +13,7 @@ unfolding wanted_line
 lacks text rest x line four whole left is =
     let has : starts_with nat_eq text (codes "not ") ≡ true =
     ap (λ (t : List ℕ). starts_with nat_eq t (codes "not ")) whole in
-    rw has (is ∙ ap (λ (t : List ℕ). option_map (λ l. Lacks l) (end_line t))
-    (left ∙ ap (λ (k : ℕ). drop k text) four))
+    rw (has, is, left, four)
 
 pub returns-in-Some : goal.returns-in-Some
 returns-in-Some c =

@@ -1,8 +1,5 @@
 -- It is the same after any operations.
-use Rattle.std.proofs.Common.{List, subst, ◌∙◌}
 use Rattle.std.proofs.lemmas.Result.{IfOk-weaker}
-use Rattle.hp_schedules.specs.Interleavings.{IsKnown}
-use Rattle.hp_schedules.specs.declared.scripts.Step.{Step}
 use Rattle.hp_starts.proofs.Scripted.{known_after_any}
 use Rattle.hp_starts.proofs.counting.known_of.Goals as goal
 
@@ -10,6 +7,5 @@ pub returns : goal.returns
 returns c =
     IfOk-weaker c.interleavings_of.result _ _
     (λ known h others sources. known_after_any c.args.cpus c.deref.result.now others c.args.lines.now
-    _ sources c.args.limit known (subst (λ (ss : List (List Step)). IsKnown ss c.args.limit known)
-    (c.deref-2.ensures.value ∙ c.in_ok-scripts.ensures) h))
+    _ sources c.args.limit known (rw (c.deref-2.ensures.value, c.in_ok-scripts.ensures) at h))
     c.interleavings_of.ensures

@@ -20,17 +20,11 @@ one_more : (lines : List Line) (sources : List (Option ℕ)) (i : ℕ) (line : L
     → more ++ steps_in cpu op (begun || line_begins cpu line) lines sources (i + 1) (drop (i + 1) lines)
     ≡ whole
 one_more lines sources i line cpu op begun steps more whole within at pushed so_far =
-    let here : List step.Step =
-    steps_of (step_for cpu op begun (named_at cpu lines sources i (asked_by line.work)) line) in
-    let rest : List step.Step =
-    steps_in cpu op (begun || line_begins cpu line) lines sources (i + 1) (drop (i + 1) lines) in
     let next : drop i lines ≡ line ∷ drop (i + 1) lines =
     drop-cons lines i line within
     ∙ (ap (λ (l : Line). l ∷ drop (suc i) lines) (sym at)
     ∙ ap (λ (n : ℕ). line ∷ drop n lines) (sym (add-one i))) in
-    ap (λ (s : List step.Step). s ++ rest) pushed
-    ∙ (append_assoc steps here rest
-    ∙ (ap (λ (ls : List Line). steps ++ steps_in cpu op begun lines sources i ls) (sym next) ∙ so_far))
+    rw (pushed, append_assoc steps) (rw next at so_far)
 
 pub loop-place-preserved : goal.loop-place-preserved
 loop-place-preserved c =
@@ -38,21 +32,15 @@ loop-place-preserved c =
     let line = c.index-lines-place.result in
     let later : c.if-has_begun.has_begun ≡ (begun || line_begins c.args.cpu line) =
     elim c.if-has_begun.branch [
-      | then-has_begun w ↦
-          w.has_begun-is ∙ (w.if-has_begun.true
-          ∙ sym (ap (λ (b : Bool). b || line_begins c.args.cpu line) w.if-has_begun.true))
-      | else-has_begun w ↦
-          w.has_begun-is ∙ (w.line_begins-has_begun.ensures
-          ∙ sym (ap (λ (b : Bool). b || line_begins c.args.cpu line) w.if-has_begun.false))
+      | then-has_begun w ↦ rw (w.has_begun-is, w.if-has_begun.true)
+      | else-has_begun w ↦ rw (w.has_begun-is, w.line_begins-has_begun.ensures, w.if-has_begun.false)
     ] in
-    ap (λ (b : Bool). c.push_some.new.steps.items
-    ++ steps_in c.args.cpu c.last_begun-op.result b c.args.lines.now c.args.sources.now
-    (c.loop-place.place + 1) (drop (c.loop-place.place + 1) c.args.lines.now)) later
-    ∙ one_more c.args.lines.now c.args.sources.now c.loop-place.place line c.args.cpu c.last_begun-op.result
+    rw later (one_more c.args.lines.now c.args.sources.now c.loop-place.place line c.args.cpu
+    c.last_begun-op.result
     begun c.loop-place.steps.items c.push_some.new.steps.items _ c.loop-place-test.true
     c.index-lines-place.is
     (c.in_ok-push_some.ensures ∙ ap (λ (s : Option step.Step). c.loop-place.steps.items ++ steps_of s)
     (c.in_ok-step.ensures line
     (slice_get_read c.args.lines.now (length c.args.lines.now) c.loop-place.place line refl
     c.loop-place-test.true c.index-lines-place.is)))
-    c.loop-place.invariant
+    c.loop-place.invariant)

@@ -1,32 +1,23 @@
 -- One processor more that had no such reply; else it is the one.
-use Rattle.std.proofs.Common.{List, None, subst}
-use Rattle.hp_units.specs.declared.replies.Reply.{Reply}
-use Rattle.hp_questions.specs.Wanted.{HasAnswer, HasReply}
-use Rattle.hp_questions.proofs.Below.{below_all, none_more, read_here, told_no, told_same, told_yes}
+use Rattle.hp_questions.specs.Wanted.{HasReply}
+use Rattle.hp_questions.proofs.Below.{none_has, none_more, one_has}
 use Rattle.hp_questions.proofs.wanted.Pattern.is_among_all.Goals as goal
 
 pub loop-index-preserved : goal.loop-index-preserved
 loop-index-preserved c = record {
-  none = none_more (λ (replies : List Reply). HasReply c.args.self.now replies) c.args.all.now
-      c.loop-index.index c.index-all-index.result c.loop-index-test.true c.index-all-index.is
-      (told_same (λ (replies : List Reply). HasReply c.args.self.now replies) c.as_slice.result.now
-      c.index-all-index.result c.as_slice.ensures c.if-is_among.ensures)
+  none = none_more (HasReply c.args.self.now) c.args.all.now c.loop-index.index c.index-all-index.result
+      c.loop-index-test.true c.index-all-index.is
+      (rw c.as_slice.ensures at c.if-is_among.ensures)
       c.loop-index.invariant.none;
 }
 
 pub returns-then-is_among : goal.returns-then-is_among
 returns-then-is_among c =
-    told_yes (HasAnswer c.args.self.now c.args.all.now None) (
-      c.loop-index.index,
-      c.index-all-index.result,
-      read_here c.args.all.now c.loop-index.index c.index-all-index.result c.loop-index-test.true
-          c.index-all-index.is,
-      subst (λ (replies : List Reply). HasReply c.args.self.now replies) c.as_slice.ensures
-          (c.is_among.ensures.0 c.if-is_among.true),
-    )
+    one_has (HasReply c.args.self.now) c.args.all.now c.loop-index.index c.index-all-index.result
+    c.loop-index-test.true c.index-all-index.is
+    (rw c.as_slice.ensures at (c.is_among.ensures.0 c.if-is_among.true))
 
 pub returns : goal.returns
 returns c =
-    told_no (HasAnswer c.args.self.now c.args.all.now None)
-    (λ has. below_all (λ (replies : List Reply). HasReply c.args.self.now replies → ⊥) c.args.all.now
-    c.loop-index.index c.loop-index-test.false c.loop-index.invariant.none has.0 has.1 has.2 has.3)
+    none_has (HasReply c.args.self.now) c.args.all.now c.loop-index.index c.loop-index-test.false
+    c.loop-index.invariant.none
