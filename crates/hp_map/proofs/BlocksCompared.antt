@@ -1,6 +1,5 @@
 -- Memory blocks, rows and lists of them, part by part.
-use Rattle.std.proofs.Common.{◌≡◌, ℕ, zero, suc, ◌+◌, ◌<◌, true, false, List, [], ◌∷◌, drop, length, map, Option, None, Some, refl, sym, ap, ◌∙◌, get_or}
-use Rattle.std.proofs.lemmas.List.{drop_more, drop_all}
+use Rattle.std.proofs.Common.{◌≡◌, ℕ, List, drop, map, Option, None, ap, ◌∙◌}
 use Rattle.hp_map.specs.BlockPictures.{BlockValue, block_with}
 use Rattle.hp_map.specs.Rows.{RowValue, row_with}
 use Rattle.hp_map.specs.declared.block_picture.FreeBlock.{FreeBlock}
@@ -31,29 +30,3 @@ equal_rows a asked answer blocks first second still same =
 abbrev pub Compared : {X : Type 0} → (f : X → X) → (xs ys left : List X) → (i : ℕ) → Type 0
 Compared f xs ys left i =
     (ys ≡ map f xs → left ≡ map f (drop i xs)) × (left ≡ map f (drop i xs) → ys ≡ map f xs)
-
-abbrev tail : {X : Type 0} → List X → List X
-tail [] = []
-tail (x ∷ xs) = xs
-
-abbrev head_or : {X : Type 0} → X → List X → X
-head_or d [] = d
-head_or d (x ∷ xs) = x
-
-pub compared_more : {X : Type 0} (f : X → X) (xs ys left rest : List X) (i : ℕ) (x y : X) → i < length xs
-    → get_or xs i x ≡ x → left ≡ y ∷ rest → y ≡ f x → Compared f xs ys left i
-    → Compared f xs ys rest (i + 1)
-compared_more f xs ys left rest i x y low at first same c =
-    let cut : drop i xs ≡ x ∷ drop (i + 1) xs =
-    drop_more xs i x low ∙ ap (λ (z : _). z ∷ drop (i + 1) xs) at in (
-      λ e. ap tail (sym first ∙ c.0 e ∙ ap (λ (zs : List _). map f zs) cut),
-      λ e. c.1 (first ∙ ap (λ (z : _). z ∷ rest) same ∙ ap (λ (zs : List _). f x ∷ zs) e
-          ∙ sym (ap (λ (zs : List _). map f zs) cut)),
-    )
-
-pub compared_other : {X : Type 0} (f : X → X) (xs ys left rest : List X) (i : ℕ) (x y : X) → i < length xs
-    → get_or xs i x ≡ x → left ≡ y ∷ rest → (y ≡ f x → ⊥) → Compared f xs ys left i → ys ≡ map f xs → ⊥
-compared_other f xs ys left rest i x y low at first other c = λ e.
-    let cut : drop i xs ≡ x ∷ drop (i + 1) xs =
-    drop_more xs i x low ∙ ap (λ (z : _). z ∷ drop (i + 1) xs) at in
-    other (ap (head_or y) (sym first ∙ c.0 e ∙ ap (λ (zs : List _). map f zs) cut))

@@ -1,5 +1,5 @@
 -- The `==` of lists of blocks is true exactly for equal lists.
-use Rattle.std.proofs.Common.{◌≡◌, Bool, List, rules}
+use Rattle.std.proofs.Common.{◌≡◌, List, rules}
 use Rattle.std.specs.Prelude.{IsTrue, ◌↔◌}
 use Rattle.std.specs.Bool.{Decides}
 use Rattle.std.specs.Cmp.Lexicographic.{pointwise, pointwise_decides}

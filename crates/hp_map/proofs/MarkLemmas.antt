@@ -47,13 +47,10 @@ pub marks_then : (f g h : Mark) (old now new : List Place) → ((k : ℕ) (p : P
     → AreMarked f old now → AreMarked g now new → AreMarked h old new
 marks_then f g h old now new same first second = grind arith
 
-pub marks_same : (h : Mark) (old : List Place) → ((k : ℕ) (p : Place) → h k p ≡ p) → AreMarked h old old
-marks_same h old same = λ k. sym (map_same (h k) (same k) (slice_get old k))
-
 -- none below 0, and one number more
 pub marks_none : (marks : ℕ → Mark) (old : List Place) → AreMarked (marks_below marks 0) old old
 unfolding marks_below
-marks_none marks old = marks_same (marks_below marks 0) old (λ k p. refl)
+marks_none marks old = grind arith
 
 pub marks_more : (marks : ℕ → Mark) (n : ℕ) (old now new : List Place)
     → AreMarked (marks_below marks n) old now → AreMarked (marks n) now new
@@ -65,7 +62,7 @@ pub marks_more_as : (marks : ℕ → Mark) (n : ℕ) (mark : Mark) (old now new 
     → AreMarked (marks_below marks n) old now → AreMarked mark now new
     → AreMarked (marks_below marks (n + 1)) old new
 marks_more_as marks n mark old now new is first second =
-    marks_more marks n old now new first (subst (λ (m : Mark). AreMarked m now new) is second)
+    marks_more marks n old now new first (rw (← is) second)
 
 -- the first frames of a list, and one more
 list_one : (a b : Bool) (place p : Place) → cond b place (cond a place p) ≡ cond (a || (b || false)) place p
@@ -76,8 +73,7 @@ pub list_more : (frames : List ℕ) (i : ℕ) (frame : ℕ) (place : Place) (old
     → AreMarked (on_list (take i frames) place) old now → AreMarked (at_frame frame place) now new
     → AreMarked (on_list (take (i + 1) frames) place) old new
 list_more frames i frame place old now new lt is first second =
-    let one : take (i + 1) frames ≡ take i frames ++ frame ∷ [] =
-    take_more frames i frame lt ∙ ap (λ (x : ℕ). take i frames ++ x ∷ []) (sym is) in
+    let one : take (i + 1) frames ≡ take i frames ++ frame ∷ [] = rw (take_more frames i frame lt, ← is) in
     let on : (k : ℕ) → is_on k (take (i + 1) frames) ≡ (is_on k (take i frames) || ((frame == k) || false)) =
     λ k. ap (is_on k) one ∙ list_any-append (λ other. other == k) (take i frames) (frame ∷ []) in
     marks_then (on_list (take i frames) place) (at_frame frame place) (on_list (take (i + 1) frames) place)

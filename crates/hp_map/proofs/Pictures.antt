@@ -1,5 +1,5 @@
 -- The pictures of memory blocks, one more after another.
-use Rattle.std.proofs.Common.{arith, ◌≡◌, ℕ, zero, suc, ◌+◌, List, [], ◌∷◌, ◌++◌, length, slice_get, IfSome, sym, ap, subst, ◌∙◌}
+use Rattle.std.proofs.Common.{arith, ◌≡◌, ℕ, zero, suc, ◌+◌, List, [], ◌∷◌, ◌++◌, length, slice_get, IfSome}
 use Rattle.std.proofs.lemmas.List.{length-append}
 use Rattle.hp_units.specs.LayoutParts.{LayoutParts}
 use Rattle.hp_units.specs.Memory.{Memory}
@@ -26,9 +26,8 @@ pub pictures_more : (l : LayoutParts) (s : Memory) (places : List Place) (n : �
 pictures_more l s places n old new b are is more =
     let P = IsBlockPicture l s places in
     record {
-      all = ap length more ∙ (length-append old (b ∷ []) ∙ ap (λ (k : ℕ). k + 1) are.all);
-      each = subst (λ (bs : List BlockValue). (k : ℕ) → IfSome (slice_get bs k) (P k)) (sym more)
-          (one_more P old b are.each (subst (λ (k : ℕ). P k b) (sym are.all) is));
+      all = rw (more, length-append old (b ∷ []), are.all);
+      each = rw more (one_more P old b are.each (rw are.all is));
     }
 
 -- a picture of these parts

@@ -1,6 +1,6 @@
 -- Frames that nothing has are in no place, and marked frames in theirs.
-use Rattle.std.proofs.Common.{◌≡◌, ℕ, zero, suc, ◌+◌, ◌-◌, zero-add, ◌*◌, ◌/◌, ◌%◌, ◌^◌, ◌<◌, ◌==◌, ◌⊎◌, inl, inr, Bool, true, false, cond, List, [], ◌∷◌, length, get_or, Option, Some, None, slice_get, sum_by, count_by, refl, sym, ap, subst, ◌∙◌, arith}
-use Rattle.std.proofs.lemmas.Bool.{cases_eq, cases_lt, cases_Bool, eq-eqb, ne_eqb, eqb-true, or_parts}
+use Rattle.std.proofs.Common.{◌≡◌, ℕ, zero, suc, ◌+◌, ◌-◌, zero-add, ◌*◌, ◌/◌, ◌%◌, ◌^◌, ◌<◌, ◌==◌, ◌⊎◌, inl, inr, Bool, true, false, cond, List, [], ◌∷◌, length, Option, Some, None, slice_get, sum_by, count_by, refl, sym, ap, ◌∙◌, arith}
+use Rattle.std.proofs.lemmas.Bool.{cases_eq, cases_lt, cases_Bool, cond-true, cond-false, eq-eqb, ne_eqb, eqb-true, or_parts}
 use Rattle.std.proofs.lemmas.Bool.Decides.{nat_tests}
 use Rattle.std.proofs.lemmas.List.Sums.{sum_by-cons}
 use Rattle.std.proofs.lemmas.Option.{slice_get_within, get_or_from_slice_get, same_Some}
@@ -14,39 +14,25 @@ use Rattle.hp_units.specs.Pages.{frame_at, holds}
 use Rattle.hp_units.specs.Placement.{cached_places, covers, kernel_places, mapped_places}
 use Rattle.hp_map.specs.declared.places.Place.{Place}
 use Rattle.hp_map.specs.declared.places.Place.TheVariants.{Kernel, Cached, Page}
-use Rattle.hp_map.specs.Marks.{at_frame, on_block, on_cpu, on_kernel, on_list, on_owner, on_page}
+use Rattle.hp_map.specs.Marks.{at_frame, on_block, on_cpu, on_kernel, on_owner, on_page}
 use Rattle.hp_map.proofs.Walks.{Has, Leaves, Sets, walk}
 
 -- ---- nothing has the frame
-
-count_none : {A : Type 0} (test : A → Bool) (xs : List A)
-    → ((i : ℕ) (x : A) → slice_get xs i ≡ Some x → test x ≡ false) → count_by test xs ≡ 0
-count_none test [] none = refl
-count_none test (x ∷ xs) none =
-    rw (
-      sum_by-cons (λ y. cond (test y) 1 0) x xs,
-      none zero x refl,
-      zero-add (count_by test xs),
-      count_none
-          test xs (λ i y is. none (suc i) y is),
-    )
 
 sum_none : {A : Type 0} (f : A → ℕ) (xs : List A) → ((i : ℕ) (x : A) → slice_get xs i ≡ Some x → f x ≡ 0)
     → sum_by f xs ≡ 0
 sum_none f [] none = refl
 sum_none f (x ∷ xs) none =
-    sum_by-cons f x xs ∙ (ap (λ (n : ℕ). n + sum_by f xs) (none zero x refl) ∙ zero-add (sum_by f xs)
-    ∙ sum_none f xs (λ i y is. none (suc i) y is))
+    rw (sum_by-cons f x xs, none zero x refl, zero-add (sum_by f xs)) (sum_none f xs (λ i. none (suc i)))
 
--- an element by its place
-off_each : (k : ℕ) (frames : List ℕ) → is_on k frames ≡ false → (i x : ℕ) → slice_get frames i ≡ Some x
-    → (x == k) ≡ false
-off_each k [] off i x is = absurd cc
-off_each k (y ∷ ys) off zero x is = grind (arith, or_parts)
-off_each k (y ∷ ys) off (suc i) x is = off_each k ys (or_parts (y == k) (is_on k ys) off).1 i x is
+count_none : {A : Type 0} (test : A → Bool) (xs : List A)
+    → ((i : ℕ) (x : A) → slice_get xs i ≡ Some x → test x ≡ false) → count_by test xs ≡ 0
+count_none test xs none =
+    sum_none (λ x. cond (test x) 1 0) xs (λ i x is. ap (λ (b : Bool). cond b 1 0) (none i x is))
 
 count_off : (k : ℕ) (frames : List ℕ) → is_on k frames ≡ false → count_by (λ other. other == k) frames ≡ 0
-count_off k frames off = count_none (λ other. other == k) frames (off_each k frames off)
+count_off k [] off = refl
+count_off k (y ∷ ys) off = grind (arith, or_parts, sum_by-cons, (count_off k ys))
 
 -- a list's number has a processor and a pool
 pool_numbered : (n : ℕ) → (pool : Pool) × (n ≡ 3 * (n / 3) + pool_index pool)
@@ -68,10 +54,7 @@ cached_none fs cpus k size off = sum_none (λ frames. count_by (λ other. other 
     each i frames is =
         let number = pool_numbered i in
         let low : i < length fs.cached = slice_get_within fs.cached i frames is in
-        let there : cached_list fs (i / 3) number.0 ≡ frames =
-        ap (λ (n : ℕ). get_or fs.cached n []) (sym number.1)
-        ∙ get_or_from_slice_get fs.cached i frames [] is in
-        count_off k frames (subst (λ (xs : List ℕ). is_on k xs ≡ false) there
+        count_off k frames (rw (← number.1, get_or_from_slice_get fs.cached i frames [] is) at
         (off (i / 3) (omega (arith, low, size)) number.0))
 
 pub mapped_none : (ps : Pages) (k : ℕ) → ((owner page : ℕ) → holds k (frame_at ps owner page) ≡ false)
@@ -83,11 +66,8 @@ mapped_none ps k off =
     each : (owner : ℕ) (row : List (Option ℕ)) → slice_get ps.table owner ≡ Some row
         → (page : ℕ) (entry : Option ℕ) → slice_get row page ≡ Some entry → holds k entry ≡ false
     each owner row is page entry there =
-        let of_row : get_or ps.table owner [] ≡ row = get_or_from_slice_get ps.table owner row [] is in
-        let of_page : frame_at ps owner page ≡ entry =
-        ap (λ (xs : List (Option ℕ)). get_or xs page None) of_row
-        ∙ get_or_from_slice_get row page entry None there in
-        subst (λ (e : Option ℕ). holds k e ≡ false) of_page (off owner page)
+        rw (get_or_from_slice_get ps.table owner row [] is, get_or_from_slice_get row page entry None there)
+        at (off owner page)
 
 enumerated : {A : Type 0} (n : ℕ) (xs : List A) (i : ℕ) (x : ℕ × A)
     → slice_get (enumerate_from n xs) i ≡ Some x → (x.0 ≡ n + i) × (slice_get xs i ≡ Some x.1)
@@ -109,9 +89,7 @@ kernel_none s k off =
     each i x is =
         let there = enumerated 0 s.kernel i x is in
         let first : x.0 ≡ i = there.0 ∙ omega arith in
-        let entry : kernel_order s x.0 ≡ x.1 =
-        ap (λ (n : ℕ). kernel_order s n) first ∙ get_or_from_slice_get s.kernel i x.1 None there.1 in
-        of_entry x.0 x.1 entry
+        of_entry x.0 x.1 (rw first (get_or_from_slice_get s.kernel i x.1 None there.1))
       where
         of_entry : (first : ℕ) (entry : Option ℕ) → kernel_order s first ≡ entry
             → option_map_or (λ order. covers k order first) entry false ≡ false
@@ -120,19 +98,13 @@ kernel_none s k off =
 
 -- ---- what each mark does to one frame
 
-cond_yes : (b : Bool) (p q : Place) → b ≡ true → cond b p q ≡ p
-cond_yes b p q e = ap (λ (c : Bool). cond c p q) e
-
-cond_no : (b : Bool) (p q : Place) → b ≡ false → cond b p q ≡ q
-cond_no b p q e = ap (λ (c : Bool). cond c p q) e
-
 -- a walk in which each number sets its own frame
 abbrev pub IsNot : ℕ → ℕ → Type 0
 IsNot k i = i ≡ k → ⊥
 
 pub at_has : (place : ℕ → Place) (number : ℕ → ℕ) (k i : ℕ)
     → Has (λ n. at_frame (number n) (place n)) k place (λ n. number n ≡ k) (λ n. IsNot k (number n)) i
-at_has place number k i = grind (arith, cases_eq, cond_yes, eq-eqb, cond_no, ne_eqb)
+at_has place number k i = grind (arith, cases_eq, cond-true, eq-eqb, cond-false, ne_eqb)
 
 -- the lists of a processor
 abbrev pub IsCachedBy : FreeFrames → (k cpu : ℕ) → Type 0
@@ -143,42 +115,23 @@ IsNotCachedBy fs k cpu = (pool : Pool) → is_on k (cached_list fs cpu pool) ≡
 
 pub cpu_has : (fs : FreeFrames) (k cpu : ℕ)
     → Has (on_cpu fs) k (λ n. Cached n) (IsCachedBy fs k) (IsNotCachedBy fs k) cpu
-cpu_has fs k cpu =
-    let set : (frames : List ℕ) (p : Place) → is_on k frames ≡ true
-    → on_list frames (Cached cpu) k p ≡ Cached cpu =
-    λ frames p on. cond_yes (is_on k frames) (Cached cpu) p on in
-    let left : (frames : List ℕ) (p : Place) → is_on k frames ≡ false → on_list frames (Cached cpu) k p ≡ p =
-    λ frames p off. cond_no (is_on k frames) (Cached cpu) p off in
-    elim (cases_Bool (is_on k (cached_list fs cpu MmPool))) [
-      | inl mm ↦ inl ((MmPool, mm), λ p. set (cached_list fs cpu MmPool) _ mm)
-      | inr no_mm ↦ elim (cases_Bool (is_on k (cached_list fs cpu NmPool))) [
-        | inl nm ↦
-            inl (
-              (NmPool, nm),
-              λ p.
-                  left (cached_list fs cpu MmPool) _ no_mm ∙ set (cached_list fs cpu NmPool) _ nm,
-            )
-        | inr no_nm ↦ elim (cases_Bool (is_on k (cached_list fs cpu NuPool))) [
-          | inl nu ↦
-              inl (
-                (NuPool, nu),
-                λ p. left (cached_list fs cpu MmPool) _ no_mm
-                    ∙ (left (cached_list fs cpu NmPool) _ no_nm ∙ set (cached_list fs cpu NuPool) p nu),
-              )
-          | inr no_nu ↦ inr (
-            none no_nu no_nm no_mm,
-            λ p. left (cached_list fs cpu MmPool) _ no_mm
-                ∙ (left (cached_list fs cpu NmPool) _ no_nm ∙ left (cached_list fs cpu NuPool) p no_nu),
-          )
-        ]
-      ]
-    ]
+cpu_has fs k cpu = by_pools (on NuPool) (on NmPool) (on MmPool) refl refl refl
   where
-    none : is_on k (cached_list fs cpu NuPool) ≡ false → is_on k (cached_list fs cpu NmPool) ≡ false
-        → is_on k (cached_list fs cpu MmPool) ≡ false → IsNotCachedBy fs k cpu
+    on : Pool → Bool
+    on pool = is_on k (cached_list fs cpu pool)
+
+    none : on NuPool ≡ false → on NmPool ≡ false → on MmPool ≡ false → IsNotCachedBy fs k cpu
     none nu nm mm NuPool = nu
     none nu nm mm NmPool = nm
     none nu nm mm MmPool = mm
+
+    by_pools : (nu nm mm : Bool) → on NuPool ≡ nu → on NmPool ≡ nm → on MmPool ≡ mm
+        → Has (λ n f p. cond mm (Cached n) (cond nm (Cached n) (cond nu (Cached n) p))) k (λ n. Cached n)
+        (IsCachedBy fs k) (IsNotCachedBy fs k) cpu
+    by_pools nu nm true a b c = inl ((MmPool, c), λ p. refl)
+    by_pools nu true false a b c = inl ((NmPool, b), λ p. refl)
+    by_pools true false false a b c = inl ((NuPool, a), λ p. refl)
+    by_pools false false false a b c = inr (none a b c, λ p. refl)
 
 -- the pages of an owner
 pub holds_is : (k : ℕ) (entry : Option ℕ) → holds k entry ≡ true → entry ≡ Some k
@@ -187,7 +140,7 @@ holds_is k entry e = grind (arith, eqb-true)
 page_has : (ps : Pages) (k owner page : ℕ)
     → Has (on_page ps owner) k (λ n. Page owner) (λ n. frame_at ps owner n ≡ Some k)
     (λ n. holds k (frame_at ps owner n) ≡ false) page
-page_has ps k owner page = grind (arith, cases_Bool, holds_is, cond_yes, cond_no)
+page_has ps k owner page = grind (arith, cases_Bool, holds_is, cond-true, cond-false)
 
 abbrev pub IsPageOf : Pages → (k owner : ℕ) → Type 0
 IsPageOf ps k owner = (page : ℕ) × (frame_at ps owner page ≡ Some k)
@@ -234,8 +187,7 @@ block_has s k first (Some order) is =
     (λ n. IsNot k (first + n)) (at_has (λ n. Kernel) (λ n. first + n) k) (2 ^ order)) [
       | inl hit ↦ inl ((order, is, covered_by k order first hit.0 hit.1 hit.2), hit.3)
       | inr miss ↦ inr (
-        λ other there. subst (λ (o : ℕ). covers k o first ≡ false) (same_Some order other (sym is ∙ there))
-            (uncovered_by k order first miss.0),
+        λ other there. rw (← same_Some order other (sym is ∙ there)) (uncovered_by k order first miss.0),
         miss.1,
       )
     ]

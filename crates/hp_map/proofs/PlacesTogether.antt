@@ -1,16 +1,16 @@
 -- All marks together give each frame its place.
-use Rattle.std.proofs.Common.{◌≡◌, ℕ, suc, ◌+◌, ◌*◌, ◌/◌, ◌%◌, ◌^◌, ◌<◌, ◌≤◌, inl, inr, Bool, true, false, cond, List, [], ◌∷◌, length, Option, Some, None, IfSome, option_map, slice_get, unwrap_or, refl, sym, ap, subst, ◌∙◌, arith}
-use Rattle.std.proofs.lemmas.Bool.{cases_lt, cases_Bool}
+use Rattle.std.proofs.Common.{◌≡◌, ℕ, suc, ◌+◌, ◌*◌, ◌/◌, ◌%◌, ◌^◌, ◌<◌, ◌≤◌, inl, inr, Bool, false, cond, List, [], ◌∷◌, length, Option, Some, None, IfSome, option_map, slice_get, unwrap_or, refl, sym, ap, subst, ◌∙◌, arith}
+use Rattle.std.proofs.lemmas.Bool.{cases_lt, cases_Bool, cond_both}
 use Rattle.std.proofs.lemmas.List.{get_or_past}
 use Rattle.std.proofs.lemmas.Nat.{div-mul-add, mod_below, mul-le, pow_pos, shr_split}
-use Rattle.std.proofs.lemmas.Option.{slice_get_within, unwrap_or-slice_get}
-use Rattle.hp_units.specs.Arithmetic.{block_of, block_of_pageblock, frame_count, pageblock_count, pageblock_of, pageblock_size}
+use Rattle.std.proofs.lemmas.Option.{none-some, slice_get_within, unwrap_or-slice_get}
+use Rattle.hp_units.specs.Arithmetic.{block_of, frame_count, pageblock_count, pageblock_of, pageblock_size}
 use Rattle.hp_units.specs.LayoutParts.{IsLayout, LayoutParts}
 use Rattle.hp_units.specs.Memory.{Memory, kernel_order, kind_of, offline_row, plain_kind, row_of}
 use Rattle.hp_map.specs.Names.{Row, Kind, State, AbsentState, OfflineState, OnlineState, GoingState}
 use Rattle.hp_units.specs.Pages.{frame_at, holds}
-use Rattle.hp_units.specs.Placement.{IsWellPlaced, cached_places, covers, free_places, is_unplugged, kernel_places, mapped_places, offline_places}
-use Rattle.hp_units.specs.Rows.{is_absent, is_offline}
+use Rattle.hp_units.specs.Placement.{IsWellPlaced, cached_places, free_places, is_unplugged, kernel_places, mapped_places, offline_places}
+use Rattle.hp_units.specs.Rows.{is_offline}
 use Rattle.hp_map.specs.declared.places.Place.{Place}
 use Rattle.hp_map.specs.declared.places.Place.TheVariants.{Free, Isolated, Kernel, Cached, Page}
 use Rattle.hp_map.specs.Marks.{AreMarked, Mark, at_frame, marks_below, on_cpu, on_kernel, on_owner, on_unused, free_in, unused_at, unused_in, unused_place}
@@ -19,7 +19,6 @@ use Rattle.hp_laws.proofs.States.{block_of-pageblock}
 use Rattle.hp_lemmas.proofs.Geometry.{pageblock_in}
 use Rattle.hp_lemmas.proofs.Placed.{kernel-in_use}
 use Rattle.hp_lemmas.proofs.Tables.{entry_within, table_of}
-use Rattle.hp_map.proofs.MarkLemmas.{marks_then}
 use Rattle.hp_map.proofs.Walks.{Has, walk}
 use Rattle.hp_map.proofs.PlaceLemmas.{cached_none, mapped_none, kernel_none, IsNot, at_has, IsCachedBy, IsNotCachedBy, cpu_has, holds_is, IsPageOf, IsNoPageOf, owner_has, IsKernelFrom, IsNotKernelFrom, kernel_has}
 
@@ -27,50 +26,34 @@ use Rattle.hp_map.proofs.PlaceLemmas.{cached_none, mapped_none, kernel_none, IsN
 
 pages_none : (l : LayoutParts) (s : Memory) (k : ℕ) → IsWellPlaced l s
     → ((owner : ℕ) → owner < l.owners → IsNoPageOf l s.pages k owner) → mapped_places s.pages k ≡ 0
-pages_none l s k placed none = mapped_none s.pages k each
-  where
-    each : (owner page : ℕ) → holds k (frame_at s.pages owner page) ≡ false
-    each owner page = elim (cases_Bool (holds k (frame_at s.pages owner page))) [
+pages_none l s k placed none =
+    mapped_none s.pages k (λ owner page. elim (cases_Bool (holds k (frame_at s.pages owner page))) [
       | inl held ↦
           let within =
           entry_within l.owners l.pages s.pages.table owner page k (table_of l s placed.in_order)
           (holds_is k (frame_at s.pages owner page) held) in
           none owner within.owner_in page within.page_in
       | inr other ↦ other
-    ]
+    ])
 
 blocks_none : (l : LayoutParts) (s : Memory) (k : ℕ) → IsWellPlaced l s
     → ((first : ℕ) → first < frame_count l → IsNotKernelFrom s k first) → kernel_places s k ≡ 0
-blocks_none l s k placed none = kernel_none s k each
-  where
-    each : (first order : ℕ) → kernel_order s first ≡ Some order → covers k order first ≡ false
-    each first order is = elim (cases_lt first (frame_count l)) [
+blocks_none l s k placed none =
+    kernel_none s k (λ first order is. elim (cases_lt first (frame_count l)) [
       | inl low ↦ none first low order is
       | inr past ↦
-          absurd (nothing
+          absurd (none-some order
           (sym (get_or_past s.kernel first None (omega (arith, placed.in_order.shape.kernel, past))) ∙ is))
-    ]
-      where
-        nothing : None ≡ Some order → ⊥
-        nothing e = cc
+    ])
 
 -- the frame of a block that is offline, absent or neither: then it is free
-row_is : (l : LayoutParts) (s : Memory) (k : ℕ) (entry : Option Row)
-    → slice_get s.blocks.rows (block_of l k) ≡ entry
-    → row_of s.blocks (block_of l k) ≡ unwrap_or entry offline_row
-row_is l s k entry is = rw (← unwrap_or-slice_get s.blocks.rows (block_of l k) offline_row, is)
-
-kind_is : (l : LayoutParts) (s : Memory) (k : ℕ) (entry : Option Kind)
-    → slice_get s.free.areas.kinds (pageblock_of l k) ≡ entry
-    → kind_of s.free.areas (pageblock_of l k) ≡ unwrap_or entry plain_kind
-kind_is l s k entry is = rw (← unwrap_or-slice_get s.free.areas.kinds (pageblock_of l k) plain_kind, is)
 
 unused_right : (l : LayoutParts) (s : Memory) (k : ℕ) → IsWellPlaced l s → cached_places s.free k ≡ 0
     → mapped_places s.pages k ≡ 0 → kernel_places s k ≡ 0 → IsPlaceOf l s k (unused_place l s k)
 unused_right l s k placed no_list no_page no_block =
-    let row = slice_get s.blocks.rows (block_of l k) in
-    let kind = slice_get s.free.areas.kinds (pageblock_of l k) in
-    by_row row kind (row_is l s k row refl) (kind_is l s k kind refl)
+    by_row (slice_get s.blocks.rows (block_of l k)) (slice_get s.free.areas.kinds (pageblock_of l k))
+    (sym (unwrap_or-slice_get s.blocks.rows (block_of l k) offline_row))
+    (sym (unwrap_or-slice_get s.free.areas.kinds (pageblock_of l k) plain_kind))
   where
     free : is_unplugged (row_of s.blocks (block_of l k)) ≡ false → free_places s.free.areas k ≡ 1
     free plugged =
@@ -80,25 +63,19 @@ unused_right l s k placed no_list no_page no_block =
     by_kind : (kind : Option Kind) → is_unplugged (row_of s.blocks (block_of l k)) ≡ false
         → kind_of s.free.areas (pageblock_of l k) ≡ unwrap_or kind plain_kind → IsPlaceOf l s k (free_in kind)
     by_kind None plugged is = (free plugged, ap (λ x. x.isolated) is)
-    by_kind (Some kind) plugged is = by_flag kind.isolated (ap (λ x. x.isolated) is)
-      where
-        by_flag : (flag : Bool) → (kind_of s.free.areas (pageblock_of l k)).isolated ≡ flag
-            → IsPlaceOf l s k (cond flag Isolated Free)
-        by_flag true e = (free plugged, e)
-        by_flag false e = (free plugged, e)
+    by_kind (Some kind) plugged is =
+        let flag = ap (λ (x : Kind). x.isolated) is in
+        cond_both kind.isolated Isolated Free (IsPlaceOf l s k) (λ e. (free plugged, flag ∙ e))
+        (λ e. (free plugged, flag ∙ e))
 
     by_state : (row : Row) (state : State) (kind : Option Kind) → row_of s.blocks (block_of l k) ≡ row
         → row.state ≡ state
         → kind_of s.free.areas (pageblock_of l k) ≡ unwrap_or kind plain_kind
         → IsPlaceOf l s k (unused_at state kind)
-    by_state row AbsentState kind is state of =
-        ap is_absent is ∙ ap (λ st. is_absent (record row { state = st })) state
-    by_state row OfflineState kind is state of =
-        ap is_offline is ∙ ap (λ st. is_offline (record row { state = st })) state
-    by_state row OnlineState kind is state of =
-        by_kind kind (ap is_unplugged is ∙ ap (λ st. is_unplugged (record row { state = st })) state) of
-    by_state row GoingState kind is state of =
-        by_kind kind (ap is_unplugged is ∙ ap (λ st. is_unplugged (record row { state = st })) state) of
+    by_state row AbsentState kind is state of = rw (is, state)
+    by_state row OfflineState kind is state of = rw (is, state)
+    by_state row OnlineState kind is state of = by_kind kind (rw (is, state)) of
+    by_state row GoingState kind is state of = by_kind kind (rw (is, state)) of
 
     by_row : (row : Option Row) (kind : Option Kind)
         → row_of s.blocks (block_of l k) ≡ unwrap_or row offline_row
@@ -133,18 +110,12 @@ pageblock_has l s k n =
 first_is : (l : LayoutParts) (s : Memory) (k n offset : ℕ) → offset < pageblock_size l
     → n * pageblock_size l + offset ≡ k → first_place l s n ≡ unused_place l s k
 first_is l s k n offset low e =
-    let here : pageblock_of l k ≡ n =
-    subst (λ (x : ℕ). pageblock_of l x ≡ n) e (div-mul-add n (pageblock_size l) offset low) in
+    let here : pageblock_of l k ≡ n = rw (← e) (div-mul-add n (pageblock_size l) offset low) in
     let there : pageblock_of l (n * pageblock_size l) ≡ n =
     subst (λ (x : ℕ). pageblock_of l x ≡ n) (omega arith)
     (div-mul-add n (pageblock_size l) 0 (pow_pos l.order)) in
     let same : pageblock_of l (n * pageblock_size l) ≡ pageblock_of l k = there ∙ sym here in
-    let block : block_of l (n * pageblock_size l) ≡ block_of l k =
-    block_of-pageblock l (n * pageblock_size l)
-    ∙ (ap (block_of_pageblock l) same ∙ sym (block_of-pageblock l k)) in
-    ap (λ (b : ℕ). unused_in (slice_get s.blocks.rows b)
-    (slice_get s.free.areas.kinds (pageblock_of l (n * pageblock_size l)))) block
-    ∙ ap (λ (p : ℕ). unused_in (slice_get s.blocks.rows (block_of l k)) (slice_get s.free.areas.kinds p)) same
+    rw (block_of-pageblock l (n * pageblock_size l), block_of-pageblock l k, same)
 
 unused_is : (l : LayoutParts) (s : Memory) (k : ℕ) → k < frame_count l → (p : Place)
     → marks_below (on_unused l s) (pageblock_count l) k p ≡ unused_place l s k
@@ -195,19 +166,17 @@ marked_right l s k placed low p =
 -- marks keep the count of places
 marked_length : (f : Mark) (old new : List Place) → AreMarked f old new → length new ≡ length old
 marked_length f [] [] are = refl
-marked_length f [] (y ∷ ys) are = absurd (no (are 0))
-  where
-    no : Some y ≡ None → ⊥
-    no e = cc
-marked_length f (x ∷ xs) [] are = absurd (no (are 0))
-  where
-    no : None ≡ Some (f 0 x) → ⊥
-    no e = cc
+marked_length f [] (y ∷ ys) are = absurd (none-some y (sym (are 0)))
+marked_length f (x ∷ xs) [] are = absurd (none-some (f 0 x) (are 0))
 marked_length f (x ∷ xs) (y ∷ ys) are = rw (marked_length (λ k. f (suc k)) xs ys (λ k. are (suc k)))
 
 if_mapped : (Q : Place → Type 0) (f : Place → Place) (o : Option Place) → ((p : Place) → o ≡ Some p → Q (f p))
     → IfSome (option_map f o) Q
 if_mapped Q f o h = grind arith
+
+four_marks : (f g h i : Mark) (a b c d e : List Place) → AreMarked f a b → AreMarked g b c → AreMarked h c d
+    → AreMarked i d e → AreMarked (λ k p. i k (h k (g k (f k p)))) a e
+four_marks f g h i a b c d e one two three four = grind arith
 
 -- the places of a state, marked from any others
 pub places_are : (l : LayoutParts) (s : Memory) (old unused cached mapped new : List Place) → IsWellPlaced l s
@@ -218,23 +187,14 @@ pub places_are : (l : LayoutParts) (s : Memory) (old unused cached mapped new : 
     → AreMarked (marks_below (on_kernel s) (frame_count l)) mapped new
     → ArePlacesOf l s new
 places_are l s old unused cached mapped new placed size first second third fourth =
-    let two =
-    marks_then (marks_below (on_unused l s) (pageblock_count l)) (marks_below (on_cpu s.free) l.cpus)
-    (λ k p. marks_below (on_cpu s.free) l.cpus k (marks_below (on_unused l s) (pageblock_count l) k p)) old
-    unused cached (λ k p. refl) first second in
-    let three =
-    marks_then (λ k p. marks_below (on_cpu s.free) l.cpus k
-    (marks_below (on_unused l s) (pageblock_count l) k p)) (marks_below (on_owner l s.pages) l.owners)
-    (λ k p. marks_below (on_owner l s.pages) l.owners k (marks_below (on_cpu s.free) l.cpus k
-    (marks_below (on_unused l s) (pageblock_count l) k p))) old cached mapped (λ k p. refl) two third in
     let all : AreMarked (marked l s) old new =
-    marks_then _ (marks_below (on_kernel s) (frame_count l)) (marked l s) old mapped new (λ k p. refl) three
-    fourth in
+    four_marks (marks_below (on_unused l s) (pageblock_count l)) (marks_below (on_cpu s.free) l.cpus)
+    (marks_below (on_owner l s.pages) l.owners) (marks_below (on_kernel s) (frame_count l)) old unused cached
+    mapped new first second third fourth in
     record {
       count = marked_length (marked l s) old new all ∙ size;
-      each = λ k. subst (λ (o : Option Place). IfSome o (IsPlaceOf l s k)) (sym (all k))
-          (if_mapped (IsPlaceOf l s k) (marked l s k) (slice_get old k) (λ p is.
-          marked_right l s k placed (subst (λ (n : ℕ). k < n) size (slice_get_within old k p is)) p));
+      each = λ k. rw (all k) (if_mapped (IsPlaceOf l s k) (marked l s k) (slice_get old k) (λ p is.
+          marked_right l s k placed (rw (← size) (slice_get_within old k p is)) p));
     }
 
 -- a kernel's block lies within the frames

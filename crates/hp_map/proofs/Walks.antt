@@ -32,14 +32,7 @@ walk marks frame place Hit Miss has zero = inr (λ i lt. absurd (omega arith), �
 walk marks frame place Hit Miss has (suc n) = elim (has n) [
   | inl hit ↦ inl (n, omega arith, hit.0, λ p. hit.1 (marks_below marks n frame p))
   | inr miss ↦ elim (walk marks frame place Hit Miss has n) [
-    | inl before ↦
-        inl (
-          before.0,
-          omega (arith, before.1),
-          before.2,
-          λ p.
-              miss.1 (marks_below marks n frame p) ∙ before.3 p,
-        )
-    | inr none ↦ inr (one_more Miss n miss.0 none.0, λ p. miss.1 (marks_below marks n frame p) ∙ none.1 p)
+    | inl before ↦ inl (before.0, omega (arith, before.1), before.2, λ p. miss.1 _ ∙ before.3 p)
+    | inr none ↦ inr (one_more Miss n miss.0 none.0, λ p. miss.1 _ ∙ none.1 p)
   ]
 ]

@@ -1,5 +1,5 @@
 -- Keys that are equal, or are not.
-use Rattle.std.proofs.Common.{arith, ◌≡◌, ◌≢◌, ℕ, ◌==◌, ◌&&◌, Bool, true, false, List, MatchBool, nat_eq, sym, ap, subst, ◌∙◌}
+use Rattle.std.proofs.Common.{arith, ◌≡◌, ◌≢◌, ℕ, ◌==◌, ◌&&◌, Bool, true, false, List, nat_eq, sym, ap, ◌∙◌}
 use Rattle.std.specs.Cmp.Lexicographic.{pointwise}
 use Rattle.std.proofs.lemmas.Bool.{eq-eqb, ne_eqb, cases_eq}
 use Rattle.std.proofs.lemmas.Bool.Decides.{Decides-eqb}
@@ -40,9 +40,7 @@ pub other_word : (a b d m n o p i : ℕ) → a ≡ m → b ≡ n → (o ≡ m �
 other_word a b d m n o p i first last other = grind (arith, cases_eq, false_and, last_other, is_other)
 
 pub same_numbers : (xs ys : List ℕ) (r : Bool) → r ≡ pointwise nat_eq xs ys → r ≡ true → xs ≡ ys
-same_numbers xs ys r is hit =
-    subst (λ (b : Bool). MatchBool b (xs ≡ ys) (xs ≢ ys)) hit (lists_told Decides-eqb xs ys r is)
+same_numbers xs ys r is hit = rw hit at (lists_told Decides-eqb xs ys r is)
 
 pub other_numbers : (xs ys : List ℕ) (r : Bool) → r ≡ pointwise nat_eq xs ys → r ≡ false → xs ≢ ys
-other_numbers xs ys r is miss =
-    subst (λ (b : Bool). MatchBool b (xs ≡ ys) (xs ≢ ys)) miss (lists_told Decides-eqb xs ys r is)
+other_numbers xs ys r is miss = rw miss at (lists_told Decides-eqb xs ys r is)

@@ -15,19 +15,15 @@ pages_join was now owner =
     (λ page. IsSilent (is_page owner page))
     (values_join (is_page owner) SetsFrame (page_in was owner) (page_in (Some now) owner)) now.layout.pages
 
-pub page_joins : (owner page : ℕ) (was now : List ℕ) (count : ℕ)
-    → Joins (PagesWordsTold owner page was now count) (NoWords owner page)
-page_joins owner page was now count =
-    below_joins
-    (λ index. Tells (is_word owner page index) SetsWord (word_of was index) (word_of now index))
-    (λ index. IsSilent (is_word owner page index))
-    (values_join (is_word owner page) SetsWord (word_of was) (word_of now)) count
-
 pub owner_joins : (was : Option Pictured) (now : Pictured) (owner : ℕ)
     → (page : ℕ) → Joins (PagesWordsTold owner page (words_in was owner page) (words_in (Some now) owner page)
     now.layout.words) (NoWords owner page)
 owner_joins was now owner page =
-    page_joins owner page (words_in was owner page) (words_in (Some now) owner page) now.layout.words
+    let old = words_in was owner page in
+    let new = words_in (Some now) owner page in
+    below_joins (λ index. Tells (is_word owner page index) SetsWord (word_of old index) (word_of new index))
+    (λ index. IsSilent (is_word owner page index))
+    (values_join (is_word owner page) SetsWord (word_of old) (word_of new)) now.layout.words
 
 pub words_join : (was : Option Pictured) (now : Pictured) (owner : ℕ)
     → Joins (OwnersWordsTold was now owner now.layout.pages) (NoOwnersWords owner)

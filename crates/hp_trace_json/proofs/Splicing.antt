@@ -1,5 +1,5 @@
 -- A splice from what two lists have in common at their starts and at their ends.
-use Rattle.std.proofs.Common.{◌≡◌, ℕ, ◌+◌, ◌-◌, List, ◌++◌, length, take, drop, sym, ap, subst, ◌∙◌, arith, append_assoc}
+use Rattle.std.proofs.Common.{◌≡◌, ℕ, ◌+◌, ◌-◌, List, ◌++◌, length, take, drop, ap, arith, append_assoc}
 use Rattle.std.proofs.lemmas.List.{take-append-drop, drop-drop}
 use Rattle.hp_trace_json.specs.Splices.{IsSplice, is_last_end, is_last_start}
 
@@ -14,14 +14,10 @@ splices was now put at end gone start ends goes comes =
     let back : length was - at - gone ≡ end = omega (arith, goes, ends.0.0) in
     let place : at + gone ≡ length was - end = omega (arith, goes, ends.0.0) in
     let tail : drop (at + gone) was ≡ drop (at + (length now - end - at)) now =
-    ap (λ (k : ℕ). drop k was) place
-    ∙ (ends.0.2 ∙ ap (λ (k : ℕ). drop k now) (omega (arith, ends.0.1))) in
+    rw (place, ends.0.2) (ap (λ (k : ℕ). drop k now) (omega (arith, ends.0.1))) in
     record {
-      leads = append_assoc (take at was) put (drop (at + gone) was)
-          ∙ (ap (λ (l : List ℕ). l ++ (put ++ drop (at + gone) was)) start.0.2
-          ∙ (ap (λ (l : List ℕ). take at now ++ (l ++ drop (at + gone) was)) comes
-          ∙ (ap (λ (l : List ℕ). take at now ++ (take (length now - end - at) (drop at now) ++ l)) tail
-          ∙ whole now at (length now - end - at))));
+      leads = rw (append_assoc (take at was) put (drop (at + gone) was), start.0.2, comes, tail)
+          (whole now at (length now - end - at));
       begins = start;
-      ends = subst (λ (n : ℕ). is_last_end was now at n) (sym back) ends;
+      ends = rw back ends;
     }

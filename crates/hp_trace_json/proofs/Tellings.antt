@@ -1,5 +1,5 @@
 -- How entries tell of more and more keys.
-use Rattle.std.proofs.Common.{◌≡◌, ◌≢◌, ℕ, ◌+◌, inl, inr, Bool, true, false, cond, List, [], ◌∷◌, ◌++◌, ap, subst, ◌∙◌, arith}
+use Rattle.std.proofs.Common.{◌≡◌, ◌≢◌, ℕ, ◌+◌, inl, inr, Bool, true, false, cond, List, [], ◌∷◌, ◌++◌, ap, ◌∙◌, arith}
 use Rattle.std.specs.List.{filter}
 use Rattle.std.proofs.lemmas.Bool.{cases_eq}
 use Rattle.std.proofs.lemmas.List.{append-nil}
@@ -82,11 +82,6 @@ values_more is Sets was now Is n before after old new first last hit miss told (
     grind (arith, append-nil, below_more, values_join)
 values_more is Sets was now Is n before after old new first last hit miss told (inr one) =
     rw one.2 (below_more (λ k. Tells (is k) Sets (was k) (now k)) (λ k. IsSilent (is k)) (values_join is
-    Sets was now) n old (one.0 ∷ []) told (subst (λ (v : _). Tells (is n) Sets v (now n) (one.0 ∷ [])) first
-    (subst (λ (v : _). Tells (is n) Sets before v (one.0 ∷ [])) last (inr (
-      one.0,
-      one.1,
-      filter_hit (is n)
-          one.0 (hit one.0 one.3),
-      one.4,
-    )))) (λ k other. filter_miss (is k) one.0 (miss k one.0 other one.3)))
+    Sets was now) n old (one.0 ∷ []) told (rw (← first, ← last)
+    (inr (one.0, one.1, filter_hit (is n) one.0 (hit one.0 one.3), one.4)))
+    (λ k other. filter_miss (is k) one.0 (miss k one.0 other one.3)))

@@ -1,9 +1,6 @@
-use Rattle.std.proofs.Common.{◌≡◌, Bool, subst, sym}
-use Rattle.std.specs.Prelude.{IsTrue, ◌↔◌}
 use Rattle.hp_map.proofs.BlocksDecided.{kernel_equal}
 use Rattle.hp_map.proofs.block_picture.are_kernel.Goals as goal
 
 pub returns : goal.returns
 returns c =
-    subst (λ (told : Bool). IsTrue told ↔ (c.args.some.now ≡ c.args.others.now)) (sym c.eq.ensures)
-    (kernel_equal c.args.some.now c.args.others.now)
+    rw c.eq.ensures (kernel_equal c.args.some.now c.args.others.now)

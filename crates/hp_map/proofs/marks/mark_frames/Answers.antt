@@ -1,5 +1,5 @@
-use Rattle.std.proofs.Common.{◌≡◌, ◌+◌, ℕ, arith, subst}
-use Rattle.hp_map.specs.Marks.{AreMarked, at_frame, marks_below}
+use Rattle.std.proofs.Common.{◌≡◌, ◌+◌, arith}
+use Rattle.hp_map.specs.Marks.{at_frame}
 use Rattle.hp_map.proofs.MarkLemmas.{marks_none, marks_more}
 use Rattle.hp_map.proofs.marks.mark_frames.Goals as goal
 
@@ -14,5 +14,4 @@ loop-offset-preserved c =
 pub returns : goal.returns
 returns c =
     let all : c.loop-offset.offset ≡ c.args.count = omega arith in
-    subst (λ (n : ℕ). AreMarked (marks_below (λ offset. at_frame (c.args.first + offset) c.args.place.now) n)
-    c.args.places.now.items c.loop-offset.places.items) all c.loop-offset.invariant
+    rw (← all) c.loop-offset.invariant

@@ -1,4 +1,4 @@
-use Rattle.std.proofs.Common.{◌≡◌, ℕ, List, Some, IfOk, option_map, string_bytes, subst, sym, rules}
+use Rattle.std.proofs.Common.{◌≡◌, ℕ, List, Some, IfOk, string_bytes, subst, sym, rules}
 use Rattle.hp_map.specs.Rounds.{halves_of}
 use Rattle.hp_map.proofs.RoundTexts.{counted_is}
 use Rattle.hp_map.proofs.rounds.counted_on.Goals as goal

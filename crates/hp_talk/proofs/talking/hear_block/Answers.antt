@@ -1,4 +1,4 @@
-use Rattle.std.proofs.Common.{[], refl}
+use Rattle.std.proofs.Common.{[]}
 use Rattle.hp_talk.specs.Talks.{desk}
 use Rattle.hp_talk.proofs.Heard.{block_broken, more_broken, quit_broken, quit_sent}
 use Rattle.hp_talk.proofs.talking.hear_block.Goals as goal
@@ -31,7 +31,5 @@ pub returns-in-Broken-clause-heard : goal.returns-in-Broken-clause-heard
 returns-in-Broken-clause-heard g c = λ line whole holds input left read.
     let sent = g.W.Sink.contents c.args.writer.now in
     let e = desk c.hear.new.talk (g.W.Sink.contents c.hear.new.writer) c.hear.new.out.items in
-    let f = desk c.hear.new.talk (g.W.Sink.contents c.hear.new.writer) [] in
-    block_broken g.T.Talk.replies (desk c.args.talk.now sent []) e f line c.args.block.now c.hear.new.held
-    input left read refl refl
-    (rw (← c.requires.out) (c.in-Broken.ensures.heard line whole holds))
+    block_broken g.T.Talk.replies (desk c.args.talk.now sent []) e line c.args.block.now c.hear.new.held
+    input left read (rw (← c.requires.out) (c.in-Broken.ensures.heard line whole holds))

@@ -1,6 +1,5 @@
-use Rattle.std.proofs.Common.{ℕ, List, [], ◌++◌, refl, subst}
-use Rattle.hp_talk.specs.Talks.{HearsLine, desk}
-use Rattle.hp_talk.specs.declared.hearing.Pause.TheVariants.{Broken, More, Quit}
+use Rattle.std.proofs.Common.{[], refl}
+use Rattle.hp_talk.specs.Talks.{desk}
 use Rattle.hp_talk.proofs.Heard.{ended_whole, last_broken, last_quit, last_replied, last_unsent}
 use Rattle.hp_talk.proofs.talking.hear_last.Goals as goal
 
@@ -16,8 +15,7 @@ returns-in-Ok-clause-heard g c = λ line whole holds input left read end.
     last_replied g.T.Talk.replies (desk c.args.talk.now sent []) e line c.hear_line.new.held input left
     (g.W.Sink.contents c.send.new.writer) read end whole
     (c.is_empty.ensures.no c.if-is_empty.false line holds)
-    (subst (λ (w : List ℕ). HearsLine g.T.Talk.replies More (desk c.args.talk.now sent w) (line ++ []) e
-    c.hear_line.new.held) c.requires.out (c.in-More.ensures.heard line holds)) c.in-Ok.ensures.ok
+    (rw c.requires.out at (c.in-More.ensures.heard line holds)) c.in-Ok.ensures.ok
 
 pub returns-in-Err-clause-heard : goal.returns-in-Err-clause-heard
 returns-in-Err-clause-heard g c = λ line whole holds input left read end.
@@ -25,8 +23,7 @@ returns-in-Err-clause-heard g c = λ line whole holds input left read end.
     let e = desk c.hear_line.new.talk (g.W.Sink.contents c.hear_line.new.writer) c.hear_line.new.out.items in
     last_unsent g.T.Talk.replies (desk c.args.talk.now sent []) e line c.hear_line.new.held input left
     (g.W.Sink.contents c.send.new.writer) read whole
-    (subst (λ (w : List ℕ). HearsLine g.T.Talk.replies More (desk c.args.talk.now sent w) (line ++ []) e
-    c.hear_line.new.held) c.requires.out (c.in-More.ensures.heard line holds)) c.in-Err.ensures.err
+    (rw c.requires.out at (c.in-More.ensures.heard line holds)) c.in-Err.ensures.err
 
 pub returns-in-Quit-clause-heard : goal.returns-in-Quit-clause-heard
 returns-in-Quit-clause-heard g c = λ line whole holds input left read end.
@@ -34,8 +31,7 @@ returns-in-Quit-clause-heard g c = λ line whole holds input left read end.
     let e = desk c.hear_line.new.talk (g.W.Sink.contents c.hear_line.new.writer) c.hear_line.new.out.items in
     last_quit g.T.Talk.replies (desk c.args.talk.now sent []) e line c.hear_line.new.held input left read
     refl
-    (subst (λ (w : List ℕ). HearsLine g.T.Talk.replies Quit (desk c.args.talk.now sent w) (line ++ []) e
-    c.hear_line.new.held) c.requires.out (c.in-Quit.ensures.heard line holds))
+    (rw c.requires.out at (c.in-Quit.ensures.heard line holds))
 
 pub returns-in-Broken-clause-heard : goal.returns-in-Broken-clause-heard
 returns-in-Broken-clause-heard g c = λ line whole holds input left read end.
@@ -43,5 +39,4 @@ returns-in-Broken-clause-heard g c = λ line whole holds input left read end.
     let e = desk c.hear_line.new.talk (g.W.Sink.contents c.hear_line.new.writer) c.hear_line.new.out.items in
     last_broken g.T.Talk.replies (desk c.args.talk.now sent []) e line c.hear_line.new.held input left
     read whole
-    (subst (λ (w : List ℕ). HearsLine g.T.Talk.replies Broken (desk c.args.talk.now sent w) (line ++ []) e
-    c.hear_line.new.held) c.requires.out (c.in-Broken.ensures.heard line holds))
+    (rw c.requires.out at (c.in-Broken.ensures.heard line holds))

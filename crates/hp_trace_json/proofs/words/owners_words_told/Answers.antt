@@ -1,6 +1,5 @@
-use Rattle.std.proofs.Common.{◌≡◌, ◌+◌, List, Some, ap, arith, subst, sym, ◌++◌, ◌∙◌}
-use Rattle.hp_trace_json.specs.declared.words.WordNow.{WordNow}
-use Rattle.hp_trace_json.specs.Changes.{NoOwnersWords, NoWords, OwnersWordsTold, PagesWordsTold, is_word}
+use Rattle.std.proofs.Common.{◌≡◌, Some, ap, arith, ◌∙◌}
+use Rattle.hp_trace_json.specs.Changes.{NoWords, PagesWordsTold, is_word}
 use Rattle.hp_trace_json.specs.Parts.{words_in}
 use Rattle.hp_trace_json.proofs.Parts.{owner_joins, words_at_as}
 use Rattle.hp_trace_json.proofs.Tellings.{below_more, below_none, silent_both, silent_none}
@@ -29,19 +28,13 @@ loop-number-preserved c =
     c.words.ensures.is ∙ ap (λ l. l.words) c.layout-in-loop-number.ensures in
     let here =
     words_at_as o n _ _ _ _ _ _ _ was now count c.in_ok-of_page.ensures.told in (
-      subst (λ (l : List WordNow). OwnersWordsTold c.args.was.now c.args.now.now o (n + 1) l)
-          (sym (c.in_ok-extend_from_slice.ensures.items
-          ∙ ap (λ l. c.loop-number.told.items ++ l) c.as_slice.ensures.value))
-          (below_more
+      rw (c.in_ok-extend_from_slice.ensures.items, c.as_slice.ensures.value) (below_more
           (λ page.
           PagesWordsTold o page (words_in c.args.was.now o page) (words_in (Some c.args.now.now) o page)
           c.args.now.now.layout.words)
           (NoWords o) (owner_joins c.args.was.now c.args.now.now o) n _ _ c.loop-number.invariant.0 here
           (λ k other. c.in_ok-of_page.ensures.others o k (λ same e. other e))),
-      λ other differs. subst (λ (l : List WordNow). NoOwnersWords other l)
-          (sym (c.in_ok-extend_from_slice.ensures.items
-          ∙ ap (λ l. c.loop-number.told.items ++ l) c.as_slice.ensures.value))
-          (λ page index.
+      λ other differs. rw (c.in_ok-extend_from_slice.ensures.items, c.as_slice.ensures.value) (λ page index.
           silent_both (is_word other page index) _ _ (c.loop-number.invariant.1 other differs page index)
           (c.in_ok-of_page.ensures.others other page (λ e same. differs e) index)),
     )

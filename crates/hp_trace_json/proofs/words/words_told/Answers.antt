@@ -1,6 +1,5 @@
-use Rattle.std.proofs.Common.{◌≡◌, ◌+◌, List, ap, arith, subst, sym, ◌++◌, ◌∙◌}
-use Rattle.hp_trace_json.specs.declared.words.WordNow.{WordNow}
-use Rattle.hp_trace_json.specs.Changes.{NoOwnersWords, OwnersWordsTold, WordsTold}
+use Rattle.std.proofs.Common.{◌≡◌, ap, arith, ◌∙◌}
+use Rattle.hp_trace_json.specs.Changes.{NoOwnersWords, OwnersWordsTold}
 use Rattle.hp_trace_json.proofs.Parts.{words_join}
 use Rattle.hp_trace_json.proofs.Tellings.{below_more, below_none}
 use Rattle.hp_trace_json.proofs.words.words_told.Goals as goal
@@ -12,9 +11,7 @@ loop-number-init c =
 
 pub loop-number-preserved : goal.loop-number-preserved
 loop-number-preserved c =
-    subst (λ (l : List WordNow). WordsTold c.args.was.now c.args.now.now (c.loop-number.number + 1) l)
-    (sym (c.in_ok-extend_from_slice.ensures.items
-    ∙ ap (λ l. c.loop-number.told.items ++ l) c.as_slice.ensures.value))
+    rw (c.in_ok-extend_from_slice.ensures.items, c.as_slice.ensures.value)
     (below_more (λ owner. OwnersWordsTold c.args.was.now c.args.now.now owner c.args.now.now.layout.pages)
     NoOwnersWords (words_join c.args.was.now c.args.now.now) c.loop-number.number _ _ c.loop-number.invariant
     c.in_ok-of_owner.ensures.told c.in_ok-of_owner.ensures.others)

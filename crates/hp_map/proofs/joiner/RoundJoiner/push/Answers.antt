@@ -1,7 +1,5 @@
-use Rattle.std.proofs.Common.{◌≡◌, ◌++◌, ◌∷◌, [], Some, false, Bool, List, Option, ap, subst, sym, rules}
-use Rattle.std.specs.Option.{option_to_list}
-use Rattle.hp_map.specs.Rounds.{HasRead, JoinsTo, RoundsValue, goes_on}
-use Rattle.hp_map.specs.Rows.{RowValue}
+use Rattle.std.proofs.Common.{◌≡◌, ◌∷◌, [], false, rules}
+use Rattle.hp_map.specs.Rounds.{JoinsTo, goes_on}
 use Rattle.hp_map.proofs.RoundsJoined.{next_read}
 use Rattle.hp_map.proofs.joiner.RoundJoiner.push.Goals as goal
 
@@ -14,7 +12,5 @@ returns c = λ done rows read.
     let other : goes_on c.args.self.now.rest c.args.row ≡ false = search rules in
     let some : c.args.self.now.rest ≡ [] → ⊥ = search rules in
     let now : c.push-2.new.self.items ≡ c.args.row ∷ [] = search rules in
-    subst (λ (rs : List RowValue). HasRead (done ++ option_to_list c.in_ok-gone.field-0.gone)
-    (Some c.in_ok-gone.field-0.last) rs (rows ++ c.args.row ∷ [])) (sym now)
-    (next_read done c.args.self.now.last c.args.self.now.rest rows c.in_ok-gone.field-0.gone
+    rw now (next_read done c.args.self.now.last c.args.self.now.rest rows c.in_ok-gone.field-0.gone
     c.in_ok-gone.field-0.last c.args.row some other joins read)

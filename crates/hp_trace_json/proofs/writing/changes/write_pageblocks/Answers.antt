@@ -10,8 +10,8 @@ loop-told-preserved c =
     let key = some_more first _ _ c.loop-told.invariant c.in_ok-write_number_key.ensures in
     elim c.if-told.branch [
       | then-told+in_ok-string w ↦
-          subst (PutsSome first) (sym w.out-is)
-          (some_more first _ _ key (one_put _ _ _ w.in_ok-string.ensures.room.0 w.in_ok-string.ensures.ok))
+          rw w.out-is (some_more first _ _ key
+          (one_put _ _ _ w.in_ok-string.ensures.room.0 w.in_ok-string.ensures.ok))
       | else-told+in_ok-null w ↦
           subst (PutsSome first) (sym w.out-is)
           (some_more first _ _ key (one_put _ _ _ w.in_ok-null.ensures.room.0 w.in_ok-null.ensures.ok))
