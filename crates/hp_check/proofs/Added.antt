@@ -41,8 +41,7 @@ pub both_added : {P : Finding → Type 0} {a b : Option ScenarioFault} {old mid 
     → Adds P a old mid → Adds P b mid new → Adds P (option_or a b) old new
 both_added {P} {a} {b} {old} {mid} {new} one two = record {
   added = one.added ++ two.added;
-  is =
-      two.is ∙ ap (λ (l : List Finding). l ++ two.added) one.is ∙ append_assoc old one.added two.added;
+  is = rw (two.is, one.is, append_assoc old one.added two.added);
   each = All-append P one.added two.added one.each two.each;
   first = first_of_two a b one.added two.added one.first two.first;
 }
@@ -78,9 +77,7 @@ pub item_added : {X : Type 0} {P : Finding → Type 0} (f : ℕ → X → Option
     → Adds P (first_at f 1 (take (i + 1) xs)) old next
 item_added {X} f xs i d lt so_far more =
     let counted : 1 + length (take i xs) ≡ i + 1 = omega (arith, length-take i xs) in
-    of_fault (sym (ap (first_at f 1) (take_more xs i d lt) ∙ last_at f 1 (take i xs) (get_or xs i d)
-    ∙ ap (λ (n : ℕ). option_or (first_at f 1 (take i xs)) (f n (get_or xs i d))) counted))
-    (both_added so_far more)
+    rw (take_more xs i d lt, last_at f 1 (take i xs) (get_or xs i d), counted) (both_added so_far more)
 
 -- all items
 pub items_added : {X : Type 0} {P : Finding → Type 0} (f : ℕ → X → Option ScenarioFault) (xs : List X) (i : ℕ)

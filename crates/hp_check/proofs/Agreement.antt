@@ -1,9 +1,9 @@
 -- The first finding is the fault that reading gives, and each has its cause.
-use Rattle.std.proofs.Common.{◌≡◌, ℕ, ◌+◌, ◌≤◌, Bool, true, false, cond, List, [], ◌∷◌, codes, count_by, length, Option, Some, None, Result, Ok, is_some, option_and_then, refl, sym, ap, ◌∙◌, arith}
+use Rattle.std.proofs.Common.{◌≡◌, ℕ, ◌+◌, ◌≤◌, Bool, true, false, cond, List, [], ◌∷◌, codes, count_by, length, Option, Some, None, Result, Ok, is_some, option_and_then, refl, arith}
 use Rattle.std.specs.List.{All}
 use Rattle.std.specs.Option.{option_map, option_or}
 use Rattle.std.proofs.lemmas.List.Elements.{All-head, All-nil, All-tail, All-weaker}
-use Rattle.std.proofs.lemmas.List.Sums.{sum_by-append}
+use Rattle.std.proofs.lemmas.List.Sums.{sum_by-cons}
 use Rattle.std.proofs.lemmas.Option.{same_Some}
 use Rattle.serde_json.specs.Data.{Data}
 use Rattle.serde_json.specs.Find.{get}
@@ -86,10 +86,8 @@ value_fault_of : (d : Data) (o : Option Form) → form_of d ≡ o
 value_fault_of d None e = refl
 value_fault_of d (Some form) e =
     let m = form_is_made d form e in
-    ap (all_faults d true) m.parts
-    ∙ layout_then_lines form (calls_fault 0 [] (entries_in d)) (layout_fault form.parts)
-    (calls_stop d form.calls m.calls)
-    ∙ ap fault_in (sym (form_fault form))
+    rw (m.parts, form_fault form) (layout_then_lines form (calls_fault 0 [] (entries_in d))
+    (layout_fault form.parts) (calls_stop d form.calls m.calls))
 
 value_fault : (d : Data) → all_faults d (is_some (form_of d)) (parts_in d) ≡ fault_in (named_of d)
 unfolding named_of
@@ -110,19 +108,12 @@ shape_cause d h f is = grind arith
 past_limits : (d : Data) (parts : Option LayoutParts) → parts_in d ≡ parts
     → is_some (limit_fault_of parts) ≡ true → IsPastLimits d
 past_limits d None e h = absurd cc
-past_limits d (Some l) e h = (l, e, some_fault_of (layout_fault l) h)
-  where
-    some_fault_of : (o : Option LayoutFault) → is_some (option_map Layout o) ≡ true → is_some o ≡ true
-    some_fault_of None h = absurd cc
-    some_fault_of (Some fault) h = refl
+past_limits d (Some l) e h = (l, e, grind arith)
 
 layout_cause : (d : Data) → is_some (limit_fault_of (parts_in d)) ≡ true
     → (f : Finding) → IsLayout f → ValueCause d f
 layout_cause d h (finding.Layout out) is = past_limits d (parts_in d) refl h
-layout_cause d h (finding.NotJson hint line column) is = is
-layout_cause d h (finding.Shape s) is = absurd is
-layout_cause d h (finding.BadCall number text names) is = absurd is
-layout_cause d h f is = is
+layout_cause d h f is = absurd is
 
 call_cause : (d : Data) (f : Finding) → IsBadCall (entries_in d) f → ValueCause d f
 call_cause d f is = grind arith
@@ -168,22 +159,13 @@ no_fault lines f h = grind arith
 
 counted : (b : Bool) (f : Finding) (fs : List Finding) → is_fault f ≡ b
     → count_by is_fault (f ∷ fs) ≡ cond b 1 0 + count_by is_fault fs
-counted b f fs h =
-    sum_by-append (λ x. cond (is_fault x) 1 0) (f ∷ []) fs
-    ∙ ap (λ (n : ℕ). n + count_by is_fault fs) (ap (λ (x : Bool). 0 + cond x 1 0) h ∙ one_more b)
-  where
-    one_more : (x : Bool) → 0 + cond x 1 0 ≡ cond x 1 0
-    one_more true = refl
-    one_more false = refl
+counted b f fs h = rw (← h) (sum_by-cons (λ x. cond (is_fault x) 1 0) f fs)
 
 none_counted : (lines : ℕ) (found : List Finding) → All (IsWarning lines) found → count_by is_fault found ≡ 0
 none_counted lines [] all = refl
 none_counted lines (f ∷ fs) all =
-    omega (
-      arith,
-      counted false f fs (no_fault lines f (All-head (IsWarning lines) f fs all)),
-      none_counted lines fs (All-tail (IsWarning lines) f fs all),
-    )
+    rw (counted false f fs (no_fault lines f (All-head (IsWarning lines) f fs all)))
+    (none_counted lines fs (All-tail (IsWarning lines) f fs all))
 
 pub warnings_agree : (input : List ℕ) (s : NamedValue) (found : List Finding) → named_in input ≡ Ok s
     → All (IsWarning (length s.scenario.lines)) found → Agrees (named_in input) found

@@ -1,5 +1,5 @@
 -- The first entry of `calls` that is no line is the line that reading stops at.
-use Rattle.std.proofs.Common.{◌≡◌, ℕ, ◌+◌, ◌<◌, ◌≤◌, Bool, true, false, cond, List, [], ◌∷◌, ◌++◌, codes, length, get_or, map, slice_get, take, Option, Some, None, Result, is_some, option_and_then, refl, sym, ap, subst, ◌∙◌, arith}
+use Rattle.std.proofs.Common.{◌≡◌, ℕ, ◌+◌, ◌<◌, ◌≤◌, cond, List, [], ◌∷◌, ◌++◌, codes, length, get_or, map, slice_get, take, Option, Some, None, Result, is_some, option_and_then, refl, sym, ap, ◌∙◌, arith}
 use Rattle.std.specs.Option.{option_map, option_or}
 use Rattle.std.proofs.lemmas.List.{get_or-map, length-append, length-take, take_all, take_more}
 use Rattle.std.proofs.lemmas.Option.{same_Some, slice_get_read}
@@ -17,11 +17,11 @@ use Rattle.hp_names.specs.Bindings.{Bound, bound_after}
 use Rattle.hp_names.specs.Named.{ReadingValue, lines_from, nothing, with_line}
 use Rattle.hp_names.specs.Plain.{plain_in}
 use Rattle.hp_names.specs.declared.plain.PlainLine.{PlainLine}
-use Rattle.hp_check.specs.Adds.{Adds, IsFirst, fault_in}
-use Rattle.hp_check.specs.Calls.{AddsBadCall, IsBadCall, IsBadText, bound_past, bound_text, bound_through, calls_fault, data_of, entries_in, entry_fault, is_line_after, items_or_none, text_fault}
+use Rattle.hp_check.specs.Adds.{Adds, fault_in}
+use Rattle.hp_check.specs.Calls.{IsBadCall, IsBadText, bound_past, bound_text, bound_through, calls_fault, data_of, entries_in, entry_fault, items_or_none, text_fault}
 use Rattle.hp_check.specs.declared.finding.Finding.{Finding}
 use Rattle.hp_check.specs.declared.finding.Finding.TheVariants as finding
-use Rattle.hp_check.proofs.Added.{both_added, by_cause, none_added, of_fault, one_added, or_assoc, or_none}
+use Rattle.hp_check.proofs.Added.{both_added, by_cause, none_added, of_fault, or_assoc, or_none}
 
 -- ---- entries
 
@@ -43,25 +43,15 @@ bound_more : (place : ℕ) (bound : Bound) (ds : List Data) (d : Data)
     → bound_through place bound (ds ++ d ∷ [])
     ≡ bound_past (place + length ds) (bound_through place bound ds) d
 bound_more place bound [] d = ap (λ (n : ℕ). bound_past n bound d) (omega arith)
-bound_more place bound (e ∷ ds) d =
-    let next = bound_past place bound e in
-    bound_more (place + 1) next ds d
-    ∙ ap (λ (n : ℕ). bound_past n (bound_through (place + 1) next ds) d) (omega arith)
+bound_more place bound (e ∷ ds) d = grind (arith, (bound_more (place + 1) (bound_past place bound e) ds d))
 
 fault_more : (place : ℕ) (bound : Bound) (ds : List Data) (d : Data)
     → calls_fault place bound (ds ++ d ∷ [])
     ≡ option_or (calls_fault place bound ds)
     (entry_fault (place + length ds) (bound_through place bound ds) d)
-fault_more place bound [] d =
-    or_none (entry_fault place bound d) ∙ ap (λ (n : ℕ). entry_fault n bound d) (omega arith)
+fault_more place bound [] d = grind (arith, or_none)
 fault_more place bound (e ∷ ds) d =
-    let next = bound_past place bound e in
-    let first = entry_fault place bound e in
-    let rest = calls_fault (place + 1) next ds in
-    let last = bound_through (place + 1) next ds in
-    ap (option_or first) (fault_more (place + 1) next ds d)
-    ∙ sym (or_assoc first rest (entry_fault (place + 1 + length ds) last d))
-    ∙ ap (λ (n : ℕ). option_or (option_or first rest) (entry_fault n last d)) (omega arith)
+    grind (arith, or_assoc, (fault_more (place + 1) (bound_past place bound e) ds d))
 
 -- what is wrong with one entry is wrong with that entry of all
 bad_entry : (ds : List Data) (at : ℕ) (d : Data) → slice_get ds at ≡ Some d
@@ -84,80 +74,18 @@ pub entry_added : (ds : List Data) (i : ℕ) (d : Data) (bound last : Bound) {ol
     → Adds (IsBadText i bound d) (entry_fault i bound d) now next → last ≡ bound_past i bound d
     → AreLookedAt ds (i + 1) old next last
 entry_added ds i d bound last {old} {now} {next} lt at so_far more is =
-    let here : slice_get ds i ≡ Some d = slice_get_read ds (length ds) i d refl lt at in
-    let before = bound_through 0 [] (take i ds) in
+    let cause = bad_entry ds i d (slice_get_read ds (length ds) i d refl lt at) in
     let counted : 0 + length (take i ds) ≡ i = omega (arith, length-take i ds) in
-    let front : take (i + 1) ds ≡ take i ds ++ d ∷ [] =
-    take_more ds i d lt ∙ ap (λ (x : Data). take i ds ++ x ∷ []) (sym at) in
-    let one : Adds (IsBadText i before d) (entry_fault i before d) now next =
-    subst (λ (b : Bound). Adds (IsBadText i b d) (entry_fault i b d) now next) so_far.names more in
+    let front : take (i + 1) ds ≡ take i ds ++ d ∷ [] = rw (take_more ds i d lt, ← at) in
     record {
-      found =
-          of_fault (sym (ap (calls_fault 0 []) front ∙ fault_more 0 [] (take i ds) d
-          ∙ ap (λ (n : ℕ). option_or (calls_fault 0 [] (take i ds)) (entry_fault n before d)) counted))
-          (both_added so_far.found (by_cause (bad_entry ds i d here) one));
-      names =
-          is ∙ ap (λ (b : Bound). bound_past i b d) so_far.names
-          ∙ sym (ap (bound_through 0 []) front ∙ bound_more 0 [] (take i ds) d
-          ∙ ap (λ (n : ℕ). bound_past n before d) counted);
+      found = rw (front, fault_more 0 [] (take i ds) d, counted, ← so_far.names)
+          (both_added so_far.found (by_cause (rw so_far.names cause) more));
+      names = rw (front, bound_more 0 [] (take i ds) d, counted, ← so_far.names) is;
     }
 
 pub entries_added : (ds : List Data) (i : ℕ) (bound : Bound) {old now : List Finding} → length ds ≤ i
     → AreLookedAt ds i old now bound → Adds (IsBadCall ds) (calls_fault 0 [] ds) old now
 entries_added ds i bound over so_far = of_fault (ap (calls_fault 0 []) (take_all i ds over)) so_far.found
-
--- ---- an entry that is no text, one that is a line, and one that is none
-
-pub no_text_added : (place : ℕ) (bound : Bound) (d : Data) (old : List Finding) → None ≡ as_str d
-    → Adds (IsBadText place bound d) (entry_fault place bound d) old old
-no_text_added place bound d old is =
-    of_fault (ap (text_fault place bound) is) (none_added (IsBadText place bound d) old)
-
-pub no_text_past : (place : ℕ) (bound : Bound) (d : Data) → None ≡ as_str d → bound ≡ bound_past place bound d
-no_text_past place bound d is = ap (bound_text place bound) is
-
-said_after : (bound : Bound) (text : List ℕ) (plain : PlainLine) (b : Bool) → plain ≡ plain_in bound text
-    → b ≡ is_some (line_says plain.text) → b ≡ is_line_after bound text
-said_after bound text plain b same e = e ∙ ap (λ (p : PlainLine). is_some (line_says p.text)) same
-
-pub line_added : (place : ℕ) (bound : Bound) (d : Data) (text : List ℕ) (plain : PlainLine)
-    (old : List Finding)
-    → Some text ≡ as_str d → plain ≡ plain_in bound text → true ≡ is_some (line_says plain.text)
-    → Adds (IsBadText place bound d) (entry_fault place bound d) old old
-line_added place bound d text plain old is same line =
-    of_fault (ap (λ (b : Bool). cond b None (Some (BadLine (place + 1))))
-    (said_after bound text plain true same line)
-    ∙ ap (text_fault place bound) is)
-    (none_added (IsBadText place bound d) old)
-
-pub line_past : (place : ℕ) (bound new : Bound) (d : Data) (text : List ℕ) (plain : PlainLine)
-    → Some text ≡ as_str d → plain ≡ plain_in bound text → true ≡ is_some (line_says plain.text)
-    → new ≡ bound_after bound plain.naming place 0 → new ≡ bound_past place bound d
-line_past place bound new d text plain is same line bind =
-    let after = bound_after bound (plain_in bound text).naming place 0 in
-    bind ∙ ap (λ (p : PlainLine). bound_after bound p.naming place 0) same
-    ∙ ap (λ (b : Bool). cond b after bound) (said_after bound text plain true same line)
-    ∙ ap (bound_text place bound) is
-
-pub bad_added : (place : ℕ) (bound : Bound) (d : Data) (text : List ℕ) (plain : PlainLine)
-    (old new : List Finding)
-    → Some text ≡ as_str d → plain ≡ plain_in bound text → false ≡ is_some (line_says plain.text)
-    → AddsBadCall (place + 1) text old new
-    → Adds (IsBadText place bound d) (entry_fault place bound d) old new
-bad_added place bound d text plain old new is same line adds =
-    let none : false ≡ is_line_after bound text = said_after bound text plain false same line in
-    one_added (IsBadText place bound d) (entry_fault place bound d) (finding.BadCall (place + 1) text adds.0)
-    old new adds.1 (refl, sym is, sym none)
-    (subst (λ (fault : Option ScenarioFault). IsFirst fault (finding.BadCall (place + 1) text adds.0 ∷ []))
-    (ap (λ (b : Bool). cond b None (Some (BadLine (place + 1)))) none ∙ ap (text_fault place bound) is) refl)
-
-pub bad_past : (place : ℕ) (bound : Bound) (d : Data) (text : List ℕ) (plain : PlainLine)
-    → Some text ≡ as_str d → plain ≡ plain_in bound text → false ≡ is_some (line_says plain.text)
-    → bound ≡ bound_past place bound d
-bad_past place bound d text plain is same line =
-    let after = bound_after bound (plain_in bound text).naming place 0 in
-    ap (λ (b : Bool). cond b after bound) (said_after bound text plain false same line)
-    ∙ ap (bound_text place bound) is
 
 -- ---- where reading stops
 
@@ -185,8 +113,7 @@ one_step : (n place : ℕ) (xs : List (List ℕ)) (r : ReadingValue) (plain : Pl
     (later (cond (is_some says) (bound_after r.bound plain.naming place 0) r.bound))
     ≡ fault_in (goes_on n xs r plain says)
 one_step n place xs r plain None later number at rest = ap (λ (k : ℕ). Some (BadLine k)) (sym number)
-one_step n place xs r plain (Some said) later number at rest =
-    ap (λ (k : ℕ). later (bound_after r.bound plain.naming k 0)) at ∙ rest said
+one_step n place xs r plain (Some said) later number at rest = rw at (rest said)
 
 text_step : (n place : ℕ) (r : ReadingValue) (texts : List (List ℕ)) (o : Option (List ℕ))
     (more : Option (List (List ℕ))) (later : Bound → Option ScenarioFault)
@@ -200,11 +127,9 @@ text_step n place r texts None more later number at t rest = absurd cc
 text_step n place r texts (Some x) None later number at t rest = absurd cc
 text_step n place r texts (Some x) (Some xs) later number at t rest =
     let plain = plain_in r.bound x in
-    one_step n place xs r plain (line_says plain.text) later number at
-    (λ said. rest (with_line r plain (numbered r.names said)) xs
-    (omega (arith, at, length-append r.lines ((numbered r.names said).line ∷ []))) refl)
-    ∙ ap fault_in (sym (first_line n x xs r))
-    ∙ ap (λ (ts : List (List ℕ)). fault_in (lines_from n r ts)) (same_Some (x ∷ xs) texts t)
+    rw (← same_Some (x ∷ xs) texts t, first_line n x xs r) (one_step n place xs r plain (line_says plain.text)
+    later number at (λ said. rest (with_line r plain (numbered r.names said)) xs
+    (omega (arith, at, length-append r.lines ((numbered r.names said).line ∷ []))) refl))
 
 entries_stop : (ds : Items) (n place : ℕ) (r : ReadingValue) (texts : List (List ℕ))
     → n ≡ place + 1 → place ≡ length r.lines → each_in as_str ds ≡ Some texts

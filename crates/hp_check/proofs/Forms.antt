@@ -147,12 +147,8 @@ layout_form d ms e =
     && if_there are_boots (get (codes "boot") d)) (keys_there d)
     ∙ layout_tests count (list_all (is_there d) number_keys) (list_all (is_number_at d) number_keys)
     (get (codes "boot") d) numbers (numbers_are d number_keys)
-    ∙ ap (λ (b : Bool). count && b)
-    (sym (made_of_boots d (boots_of (get (codes "boot") d)) numbers refl))
-    ∙ ap (λ (b : Bool). b && is_some (option_and_then (λ boot. parts_with boot d)
-    (boots_of (get (codes "boot") d)))) (sym (right_count d ms 11 e))
-    ∙ sym (if_some (has_keys 11 d) (option_and_then (λ boot. parts_with boot d)
-    (boots_of (get (codes "boot") d))))
+    ∙ sym (rw (if_some, right_count d ms 11 e) (ap (λ (b : Bool). count && b)
+    (made_of_boots d (boots_of (get (codes "boot") d)) numbers refl)))
 
 pub layout_formless : (d : Data) → as_object d ≡ None → is_some (parts_of d) ≡ false
 unfolding parts_of has_keys

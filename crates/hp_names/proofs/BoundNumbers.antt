@@ -1,5 +1,5 @@
 -- Names whose numbers become known one after another.
-use Rattle.std.proofs.Common.{◌≡◌, ℕ, zero, suc, List, [], ◌∷◌, ◌++◌, ◌+◌, Some, None, map, take, drop, slice_get, refl, ap, sym, ◌∙◌, add-one}
+use Rattle.std.proofs.Common.{◌≡◌, ℕ, zero, suc, List, [], ◌∷◌, ◌++◌, ◌+◌, Some, None, map, take, drop, slice_get, refl, add-one}
 use Rattle.std.proofs.lemmas.Option.{same_Some}
 use Rattle.indexmap.specs.IndexMap.{set_value_at}
 use Rattle.hp_names.specs.Bindings.{Bound, numbered_entry, numbered_result}
@@ -19,9 +19,9 @@ pub number_more : (numbers : List ℕ) (bound : Bound) (i : ℕ) (r : NamedResul
 number_more numbers [] zero r at = refl
 number_more numbers [] (suc i) r at = refl
 number_more numbers (e ∷ es) zero r at =
-    ap (λ (x : NamedResult). (e.0, numbered_result numbers x) ∷ es) (sym (same_Some e.1 r at))
+    rw (same_Some e.1 r at)
 number_more numbers (e ∷ es) (suc i) r at =
-    ap (λ (l : Bound). numbered_entry numbers e ∷ l) (number_more numbers es i r at)
+    rw (number_more numbers es i r at)
 
 -- or none, past the last
 pub number_none : (numbers : List ℕ) (bound : Bound) (i : ℕ)
@@ -31,21 +31,17 @@ number_none numbers [] zero at = refl
 number_none numbers [] (suc i) at = refl
 number_none numbers (e ∷ es) zero at = absurd cc
 number_none numbers (e ∷ es) (suc i) at =
-    ap (λ (l : Bound). numbered_entry numbers e ∷ l) (number_none numbers es i at)
+    rw (number_none numbers es i at)
 
 -- a loop's step: entry `i` of the entries so far was found and has its number, or it is past the last
 pub more_numbered : (numbers : List ℕ) (bound now next : Bound) (i : ℕ) (r w : NamedResult)
     → now ≡ so_far numbers i bound → slice_get (results now) i ≡ Some r → w ≡ numbered_result numbers r
     → next ≡ set_value_at now i w → next ≡ so_far numbers (i + 1) bound
-more_numbered numbers bound now next i r w is at same set =
-    set ∙ ap (λ (l : Bound). set_value_at l i w) is
-    ∙ ap (λ (x : NamedResult). set_value_at (so_far numbers i bound) i x) same
-    ∙ number_more numbers bound i r (ap (λ (l : Bound). slice_get (results l) i) (sym is) ∙ at)
-    ∙ ap (λ (k : ℕ). so_far numbers k bound) (sym (add-one i))
+more_numbered numbers bound now next i r w is found same set =
+    rw (set, same, is, add-one) (number_more numbers bound i r (rw is at found))
 
 pub none_numbered : (numbers : List ℕ) (bound now next : Bound) (i : ℕ)
     → now ≡ so_far numbers i bound → slice_get (results now) i ≡ None → next ≡ now
     → next ≡ so_far numbers (i + 1) bound
-none_numbered numbers bound now next i is at same =
-    same ∙ is ∙ number_none numbers bound i (ap (λ (l : Bound). slice_get (results l) i) (sym is) ∙ at)
-    ∙ ap (λ (k : ℕ). so_far numbers k bound) (sym (add-one i))
+none_numbered numbers bound now next i is found same =
+    rw (same, is, add-one) (number_none numbers bound i (rw is at found))

@@ -1,33 +1,22 @@
 -- Lines that are run in order with numbers in them, one more after another.
-use Rattle.std.proofs.Common.{◌≡◌, ℕ, ◌+◌, ◌<◌, ◌≤◌, List, [], ◌∷◌, ◌++◌, length, get_or, take, drop, set, refl, sym, ap, subst, ◌∙◌, append_assoc, arith, Option, suc, zero, add-one, min, ◌⊎◌, inl, inr}
-use Rattle.std.proofs.Math.Seq.{drop-cons}
+use Rattle.std.proofs.Common.{◌≡◌, ℕ, ◌+◌, ◌<◌, ◌≤◌, List, [], ◌∷◌, ◌++◌, length, get_or, take, drop, set, refl, sym, ap, ◌∙◌, append_assoc, arith, Option, suc, add-one, min, ◌⊎◌, inl, inr}
+use Rattle.std.proofs.Math.Seq.{drop-cons, drop-nil}
 use Rattle.std.proofs.lemmas.Bool.{cases_lt}
-use Rattle.std.proofs.lemmas.List.{drop-set-lt, drop_all, length-append, take-append-drop, take_min, take_more, take_more_set, length-take-le}
+use Rattle.std.proofs.lemmas.List.{drop-drop, drop-set-lt, drop_all, take_min, take_more, take_more_set, length-take-le}
 use Rattle.hp_units.specs.LayoutParts.{LayoutParts}
 use Rattle.hp_machine.specs.Machine.{MachineValue, booted}
 use Rattle.hp_scenario.specs.declared.lines.Line.{Line}
 use Rattle.hp_names.specs.Bindings.{Bound, numbered}
-use Rattle.hp_names.specs.Named.{NamedValue}
-use Rattle.hp_names.specs.Resolved.{PutsNumbers, Resolves, RunsFront, first_source, line_after, lines_after, sources_after}
+use Rattle.hp_names.specs.Resolved.{PutsNumbers, RunsFront, first_source, line_after, lines_after, sources_after}
 use Rattle.hp_names.specs.Runs.{RunsLine}
 
 -- ---- numbers in lines
 
-drop_nil : {A : Type 0} (i : ℕ) → drop {A = A} i [] ≡ []
-drop_nil zero = refl
-drop_nil (suc i) = refl
-
-drop_suc : {A : Type 0} (xs : List A) (i : ℕ) → drop 1 (drop i xs) ≡ drop (suc i) xs
-drop_suc [] zero = refl
-drop_suc [] (suc i) = refl
-drop_suc (x ∷ xs) zero = refl
-drop_suc (x ∷ xs) (suc i) = drop_suc xs i
-
 drop_next : {A : Type 0} (xs : List A) (i : ℕ) → drop 1 (drop i xs) ≡ drop (i + 1) xs
-drop_next {A = A} xs i = drop_suc xs i ∙ ap (λ (n : ℕ). drop {A = A} n xs) (sym (add-one i))
+drop_next xs i = drop-drop 1 i xs
 
 drop_one_first : {A : Type 0} (xs : List A) (i : ℕ) → drop (suc i) xs ≡ drop i (drop 1 xs)
-drop_one_first [] i = sym (drop_nil i)
+drop_one_first [] i = sym (drop-nil i)
 drop_one_first (x ∷ xs) i = refl
 
 -- one more line gets its number
@@ -38,23 +27,14 @@ pub put_one : (lines : List Line) (sources : List (Option ℕ)) (numbers : List 
     → take (i + 1) (set lines i new)
     ++ lines_after numbers (drop (i + 1) sources) (drop (i + 1) (set lines i new)) ≡ total
 put_one lines sources numbers i line new total lt at is so_far =
-    let rest = lines_after numbers (drop (i + 1) sources) (drop (i + 1) lines) in
     let here : drop i lines ≡ line ∷ drop (i + 1) lines =
     drop-cons lines i line lt ∙ ap (λ (l : Line). l ∷ drop (suc i) lines) (sym at)
     ∙ ap (λ (n : ℕ). line ∷ drop n lines) (sym (add-one i)) in
-    let made : lines_after numbers (drop i sources) (drop i lines) ≡ new ∷ rest =
-    ap (lines_after numbers (drop i sources)) here
-    ∙ ap (λ (l : Line). l ∷ lines_after numbers (drop 1 (drop i sources)) (drop (i + 1) lines)) (sym is)
-    ∙ ap (λ (ss : List (Option ℕ)). new ∷ lines_after numbers ss (drop (i + 1) lines))
-    (drop_next sources i) in
-    let front : take (i + 1) (set lines i new) ≡ take i lines ++ new ∷ [] = take_more_set lines i new lt in
-    let later : drop (i + 1) (set lines i new) ≡ drop (i + 1) lines =
-    drop-set-lt (i + 1) lines i new (omega arith) in
-    ap (λ (t : List Line). t
-    ++ lines_after numbers (drop (i + 1) sources) (drop (i + 1) (set lines i new))) front
-    ∙ ap (λ (t : List Line). (take i lines ++ new ∷ []) ++ lines_after numbers (drop (i + 1) sources) t) later
-    ∙ append_assoc (take i lines) (new ∷ []) rest
-    ∙ ap (λ (t : List Line). take i lines ++ t) (sym made) ∙ so_far
+    rw (
+      take_more_set lines i new lt,
+      drop-set-lt (i + 1) lines i new (omega arith),
+      append_assoc (take i lines) (new ∷ []),
+    ) (rw (here, ← is, drop_next sources i) at so_far)
 
 -- ---- runs
 
@@ -66,32 +46,14 @@ runs_one_more : (xs ran : List Line) (line : Line) (sources : List (Option ℕ))
     → RunsFront m before sources (xs ++ line ∷ [])
     (ran ++ line_after so_far (first_source (drop (length xs) sources)) line ∷ []) new (so_far ++ number ∷ [])
 runs_one_more [] ran line sources m mid new before so_far number run one =
-    let source = first_source sources in
-    let line' = line_after before source line in
-    let same : line_after so_far source line ≡ line' =
-    ap (λ (ns : List ℕ). line_after ns source line) run.2 in
-    let ran_now : ran ++ line_after so_far source line ∷ [] ≡ line' ∷ [] =
-    ap (λ (t : List Line). t ++ line_after so_far source line ∷ []) run.0 ∙ ap (λ (l : Line). l ∷ []) same in
-    let one' : RunsLine m line' new number =
-    subst (λ (l : Line). RunsLine m l new number) same
-    (subst (λ (k : MachineValue). RunsLine k (line_after so_far source line) new number) run.1 one) in
-    (new, number, [], ran_now, one', (refl, refl, ap (λ (ns : List ℕ). ns ++ number ∷ []) run.2))
+    (new, number, [], rw (run.0, run.2), rw (run.2, run.1) at one, (refl, refl, rw run.2))
 runs_one_more (x ∷ xs) ran line sources m mid new before so_far number run one =
     let source = first_source (drop (length xs) (drop 1 sources)) in
     let places : drop (length (x ∷ xs)) sources ≡ drop (length xs) (drop 1 sources) =
     drop_one_first sources (length xs) in
-    let one' : RunsLine mid (line_after so_far source line) new number =
-    subst (λ (ss : List (Option ℕ)). RunsLine mid (line_after so_far (first_source ss) line) new number)
-    places one in
     let more = runs_one_more xs run.2 line (drop 1 sources) run.0 mid new (before ++ run.1 ∷ []) so_far number
-    run.5 one' in
-    let ran_now : ran ++ line_after so_far (first_source (drop (length (x ∷ xs)) sources)) line ∷ []
-    ≡ line_after before (first_source sources) x ∷ (run.2 ++ line_after so_far source line ∷ []) =
-    ap (λ (t : List Line). t ++ line_after so_far (first_source (drop (length (x ∷ xs)) sources)) line ∷ [])
-    run.3
-    ∙ ap (λ (ss : List (Option ℕ)). line_after before (first_source sources) x ∷ (run.2
-    ++ line_after so_far (first_source ss) line ∷ [])) places in
-    (run.0, run.1, run.2 ++ line_after so_far source line ∷ [], ran_now, run.4, more)
+    run.5 (rw places at one) in
+    (run.0, run.1, run.2 ++ line_after so_far source line ∷ [], rw (run.3, places), run.4, more)
 
 -- the lines at a place are the same where what is left of both lists is
 same_at : (xs ys : List Line) (i : ℕ) (d : Line) → i < length xs → i < length ys → drop i ys ≡ drop i xs
@@ -114,8 +76,7 @@ runs_more xs lines i line new sources m mid next before so_far number lt lt' sam
     let source' = first_source (drop (length (take i xs)) sources) in
     let equal : line_after so_far source' line ≡ new =
     ap (λ (n : ℕ). line_after so_far (first_source (drop n sources)) line) all ∙ sym is in
-    let one' : RunsLine mid (line_after so_far source' line) next number =
-    subst (λ (l : Line). RunsLine mid l next number) (sym equal) one in
+    let one' : RunsLine mid (line_after so_far source' line) next number = rw equal one in
     let more =
     runs_one_more (take i xs) (take i lines) line sources m mid next before so_far number run one' in
     let front : take (i + 1) (set lines i new) ≡ take i lines ++ line_after so_far source' line ∷ [] =
@@ -123,17 +84,13 @@ runs_more xs lines i line new sources m mid next before so_far number lt lt' sam
     let asked : take (i + 1) xs ≡ take i xs ++ line ∷ [] =
     take_more xs i line lt
     ∙ ap (λ (l : Line). take i xs ++ l ∷ []) (sym (at ∙ same_at xs lines i line lt lt' same)) in
-    subst (λ (t : List Line). RunsFront m before sources (take (i + 1) xs) t next (so_far ++ number ∷ []))
-    (sym front)
-    (subst (λ (t : List Line). RunsFront m before sources t
-    (take i lines ++ line_after so_far source' line ∷ []) next (so_far ++ number ∷ [])) (sym asked) more)
+    rw (front, asked) more
 
 -- the lines after it stay
 pub later_stay : (xs lines : List Line) (i : ℕ) (new : Line) → drop i lines ≡ drop i xs
     → drop (i + 1) (set lines i new) ≡ drop (i + 1) xs
 later_stay xs lines i new same =
-    drop-set-lt (i + 1) lines i new (omega arith)
-    ∙ (sym (drop_next lines i) ∙ (ap (drop 1) same ∙ drop_next xs i))
+    rw (drop-set-lt (i + 1) lines i new (omega arith), ← drop_next lines i, same, drop_next xs i)
 
 -- ---- all lines
 
@@ -168,58 +125,9 @@ numbers_put l count front old lines put sources taken bound known numbers m is r
       front = take front lines;
       numbers = numbers;
       last = m;
-      runs = subst (λ (t : List Line). RunsFront (booted l) [] sources t (take front lines) m numbers) asked
-          runs;
+      runs = rw asked at runs;
       lines_are = made ∙ ap (λ (t : List Line). take front lines ++ t)
-          (ap (lines_after numbers (drop front sources)) later
-          ∙ rest_same count front sources numbers old is);
+          (rw later (rest_same count front sources numbers old is));
       sources_are = gone;
       bound_is = named;
     }
-
--- ---- what callers need
-
--- as many lines are run as there are
-front_length : (xs ran : List Line) (m new : MachineValue) (before after : List ℕ) (sources : List (Option ℕ))
-    → RunsFront m before sources xs ran new after → length ran ≡ length xs
-front_length [] ran m new before after sources run = ap length run.0
-front_length (x ∷ xs) ran m new before after sources run =
-    let more = front_length xs run.2 run.0 new (before ++ run.1 ∷ []) after (drop 1 sources) run.5 in
-    ap length run.3 ∙ ap suc more
-
-rest_length : (numbers : List ℕ) (sources : List (Option ℕ)) (lines : List Line)
-    → length (lines_after numbers sources lines) ≡ length lines
-rest_length numbers sources [] = refl
-rest_length numbers sources (line ∷ lines) = ap suc (rest_length numbers (drop 1 sources) lines)
-
-put_length : (l : LayoutParts) (count : ℕ) (lines put : List Line) (sources taken : List (Option ℕ))
-    (bound known : Bound) → PutsNumbers l count lines sources bound put taken known
-    → length put ≡ length lines
-put_length l count lines put sources taken bound known p =
-    let front = front_length (take count lines) p.front (booted l) p.last [] p.numbers sources p.runs in
-    let rest = rest_length p.numbers (drop count sources) (drop count lines) in
-    ap length p.lines_are
-    ∙ (length-append p.front (lines_after p.numbers (drop count sources) (drop count lines))
-    ∙ (ap (λ (n : ℕ). n + length (lines_after p.numbers (drop count sources) (drop count lines))) front
-    ∙ (ap (λ (n : ℕ). length (take count lines) + n) rest
-    ∙ (sym (length-append (take count lines) (drop count lines))
-    ∙ ap length (take-append-drop count lines)))))
-
--- the layout, the owners' names and how many lines there are stay
-pub record Keeps (old new : NamedValue) : Type 0 where
-  pub layout : new.scenario.layout ≡ old.scenario.layout
-  pub names : new.scenario.names ≡ old.scenario.names
-  pub count : length new.scenario.lines ≡ length old.scenario.lines
-
-pub resolving_keeps : (count : ℕ) (old new : NamedValue) → Resolves count old new → Keeps old new
-resolving_keeps count old new (inl same) = record {
-  layout = ap (λ (n : NamedValue). n.scenario.layout) same.2;
-  names = ap (λ (n : NamedValue). n.scenario.names) same.2;
-  count = ap (λ (n : NamedValue). length n.scenario.lines) same.2;
-}
-resolving_keeps count old new (inr r) = record {
-  layout = r.layout;
-  names = r.names;
-  count = put_length old.scenario.layout count old.scenario.lines new.scenario.lines old.sources new.sources
-      old.bound new.bound r.puts;
-}

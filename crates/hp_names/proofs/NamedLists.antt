@@ -1,5 +1,5 @@
 -- Lists of words: the last two, and words with spaces between.
-use Rattle.std.proofs.Common.{◌≡◌, ℕ, ◌+◌, ◌<◌, List, [], ◌∷◌, ◌++◌, Bor, length, get_or, map, Some, None, refl, sym, ap, ◌∙◌, append_assoc, arith, subst, suc, zero}
+use Rattle.std.proofs.Common.{◌≡◌, ℕ, ◌+◌, ◌<◌, List, [], ◌∷◌, ◌++◌, Bor, length, get_or, map, Some, None, refl, sym, ap, ◌∙◌, append_assoc, arith, suc, zero}
 use Rattle.std.specs.List.{flat_map, join_by}
 use Rattle.std.proofs.lemmas.Grind.{flat_map-append}
 use Rattle.std.proofs.lemmas.List.Folds.{flat_map-map}
@@ -30,8 +30,7 @@ pub joined_seen : (ws : List (Bor (List ℕ)))
     → join_by (λ (w : Bor (List ℕ)). w.now) (32 ∷ []) ws ≡ joined (map (λ w. w.now) ws)
 joined_seen [] = refl
 joined_seen (w ∷ ws) =
-    ap (λ (t : List ℕ). w.now ++ t)
-    (sym (flat_map-map (λ (y : List ℕ). (32 ∷ []) ++ y) (λ (w : Bor (List ℕ)). w.now) ws))
+    rw (← flat_map-map (λ (y : List ℕ). (32 ∷ []) ++ y) (λ (w : Bor (List ℕ)). w.now) ws)
 
 -- one word more
 pub joined_more : (w : List ℕ) (ws : List (List ℕ)) (x : List ℕ)
@@ -46,15 +45,10 @@ joined_more w ws x =
 
 pub dollar_first : (bytes word : List ℕ) → bytes ≡ word → 0 < length bytes → get_or bytes 0 0 ≡ 36
     → (0 < length word) × (get_or word 0 0 ≡ 36)
-dollar_first bytes word same lt is = (
-  subst (λ (t : List ℕ). 0 < length t) same lt,
-  sym (ap (λ (t : List ℕ). get_or t 0 0) same) ∙ is,
-)
+dollar_first bytes word same lt is = (rw same at lt, rw same at is)
 
 -- the two words at the end, by their places
 pub last_two_ends : (ws : List (Bor (List ℕ))) (i j : ℕ) (d : Bor (List ℕ)) → length ws ≡ i + 2
     → length ws ≡ j + 1 → last_two (map (λ w. w.now) ws) ≡ Some ((get_or ws i d).now, (get_or ws j d).now)
 last_two_ends ws i j d e f =
-    let next : suc i ≡ j = omega arith in
-    subst (λ (k : ℕ). last_two (map (λ w. w.now) ws) ≡ Some ((get_or ws i d).now, (get_or ws k d).now)) next
-    (last_two_there ws i d (omega arith))
+    let next : suc i ≡ j = omega arith in rw (← next) (last_two_there ws i d (omega arith))

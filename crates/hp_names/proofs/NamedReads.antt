@@ -1,7 +1,6 @@
 -- Scenarios that are read: line by line, and without names as ever.
 use Rattle.std.proofs.Common.{◌≡◌, ℕ, ◌+◌, ◌≤◌, Bool, true, false, cond, List, [], ◌∷◌, ◌++◌, length, slice_get, drop, Option, Some, None, Result, Ok, Err, refl, sym, ap, ◌∙◌, append_assoc, add-one, arith, option_map}
 use Rattle.std.specs.Prelude.{⊤, replicate}
-use Rattle.std.specs.Str.{is_utf8}
 use Rattle.std.proofs.Math.Seq.{drop-cons}
 use Rattle.std.proofs.lemmas.List.{append-nil, drop_all, length-append}
 use Rattle.std.proofs.lemmas.Option.{get_or_from_slice_get, slice_get_within}
@@ -12,7 +11,7 @@ use Rattle.hp_scenario.specs.Gives.{Fails, ◌>>=◌, or_fault}
 use Rattle.hp_scenario.specs.Names.{Numbered, line_in}
 use Rattle.hp_scenario.specs.Scenario.{ScenarioValue, Script, json_of, layout_or, scenario_in, scenario_of, scenario_with, with_line as with_plain_line, nothing as no_lines, lines_from as plain_lines_from}
 use Rattle.hp_scenario.specs.declared.fault.ScenarioFault.{ScenarioFault}
-use Rattle.hp_scenario.specs.declared.fault.ScenarioFault.TheVariants.{NotJson, BadShape, Layout, BadLine, NotForRun, OutOfMemory}
+use Rattle.hp_scenario.specs.declared.fault.ScenarioFault.TheVariants.{NotJson, BadShape, BadLine, OutOfMemory}
 use Rattle.hp_names.specs.Named.{NamedValue, ReadingValue, lines_from, named_in, named_of, named_with, nothing, plainly, with_line, with_plain, with_text}
 use Rattle.hp_names.specs.Plain.{plain_in, unchanged}
 use Rattle.hp_names.proofs.PlainTexts.{line_unchanged}
@@ -31,14 +30,6 @@ text_at xs i text at =
     rw (drop-cons xs i text (slice_get_within xs i text at), get_or_from_slice_get xs i text text at)
     (rw (← add-one i))
 
-read_if : (r next : ReadingValue) (text : List ℕ) (b : Bool) → with_text r text ≡ cond b (Some next) None
-    → b ≡ true → with_text r text ≡ Some next
-read_if r next text b h is = h ∙ ap (λ (c : Bool). cond c (Some next) None) is
-
-stops_if : (r next : ReadingValue) (text : List ℕ) (b : Bool) → with_text r text ≡ cond b (Some next) None
-    → b ≡ false → with_text r text ≡ None
-stops_if r next text b h is = h ∙ ap (λ (c : Bool). cond c (Some next) None) is
-
 -- a text that is a line: what is left goes on after it
 pub line_goes_on : (xs : List (List ℕ)) (i : ℕ) (text : List ℕ) (r next : ReadingValue) (b : Bool)
     (total : Result ReadingValue ScenarioFault) → slice_get xs i ≡ Some text
@@ -47,10 +38,7 @@ pub line_goes_on : (xs : List (List ℕ)) (i : ℕ) (text : List ℕ) (r next : 
     → lines_from ((i + 1) + 1) next (drop (i + 1) xs) ≡ total
 unfolding lines_from
 line_goes_on xs i text r next b total at h is so_far =
-    let says = read_if r next text b h is in
-    sym (ap (lines_from (i + 1) r) (text_at xs i text at)
-    ∙ ap (λ (o : Option ReadingValue). or_fault (BadLine (i + 1)) o
-    >>= λ n. lines_from ((i + 1) + 1) n (drop (i + 1) xs)) says) ∙ so_far
+    rw (text_at xs i text at, h, is) at so_far
 
 -- a text that is no line: the reading ends there
 pub line_stops : (xs : List (List ℕ)) (i : ℕ) (text : List ℕ) (r next : ReadingValue) (b : Bool)
@@ -59,10 +47,7 @@ pub line_stops : (xs : List (List ℕ)) (i : ℕ) (text : List ℕ) (r next : Re
     → lines_from (i + 1) r (drop i xs) ≡ total → total ≡ Err (BadLine (i + 1))
 unfolding lines_from
 line_stops xs i text r next b total at h is so_far =
-    let says = stops_if r next text b h is in
-    sym so_far ∙ (ap (lines_from (i + 1) r) (text_at xs i text at)
-    ∙ ap (λ (o : Option ReadingValue). or_fault (BadLine (i + 1)) o
-    >>= λ n. lines_from ((i + 1) + 1) n (drop (i + 1) xs)) says)
+    sym (rw (text_at xs i text at, h, is) at so_far)
 
 -- no text is left
 pub lines_done : (xs : List (List ℕ)) (i : ℕ) (r : ReadingValue)
@@ -244,16 +229,5 @@ lost bytes f h other = json_lost (json_of bytes) f h other
 
 pub fails_alike : (bytes : List ℕ) (f : ScenarioFault) → Fails f (scenario_in bytes) → (IsOfLine f → ⊥)
     → Fails f (named_in bytes)
-fails_alike bytes NotJson h other = lost bytes NotJson h other
-fails_alike bytes BadShape h other = lost bytes BadShape h other
-fails_alike bytes (Layout e) h other = lost bytes (Layout e) h other
-fails_alike bytes (BadLine line) h other = lost bytes (BadLine line) h other
-fails_alike bytes (NotForRun line) h other = lost bytes (NotForRun line) h other
 fails_alike bytes OutOfMemory h other = tt
-
--- ---- what callers need
-
--- bytes that are no text in UTF-8 are no JSON
-pub not_utf8 : (bytes : List ℕ) → is_utf8 bytes ≡ false → named_in bytes ≡ Err NotJson
-unfolding named_in json_of
-not_utf8 bytes h = rw h refl
+fails_alike bytes f h other = lost bytes f h other

@@ -1,5 +1,5 @@
 -- A text that is a line without names has none: it stays as it is.
-use Rattle.std.proofs.Common.{◌≡◌, ℕ, ◌==◌, ◌&&◌, Bool, true, false, cond, List, [], ◌∷◌, codes, Option, Some, None, refl, sym, ap, subst, ◌∙◌, option_map, option_and_then}
+use Rattle.std.proofs.Common.{◌≡◌, ℕ, ◌&&◌, Bool, true, false, cond, List, [], ◌∷◌, codes, Option, Some, None, refl, sym, ap, subst, ◌∙◌, option_map, option_and_then, arith}
 use Rattle.std.specs.Prelude.{unwrap_or}
 use Rattle.std.specs.Str.{bytes_eq}
 use Rattle.std.proofs.lemmas.Bool.{eqb-true}
@@ -29,16 +29,9 @@ dollar_no_number : (bits : ℕ) (name : List ℕ) → number_of bits (36 ∷ nam
 unfolding number_of digits_in
 dollar_no_number bits name = cond_none (is_bare (36 ∷ name))
 
-dollar_tested : (first : ℕ) (more name : List ℕ) (b : Bool) → (first == 36) ≡ b
-    → cond b (Some more) None ≡ Some name → first ∷ more ≡ 36 ∷ name
-dollar_tested first more name true e h =
-    let same : first ≡ 36 = eqb-true first 36 e in
-    let rest : more ≡ name = cc in cc
-dollar_tested first more name false e h = absurd cc
-
 dollar_word : (word name : List ℕ) → after_dollar word ≡ Some name → word ≡ 36 ∷ name
 dollar_word [] name h = absurd cc
-dollar_word (first ∷ more) name h = dollar_tested first more name (first == 36) refl h
+dollar_word (first ∷ more) name h = grind (arith, eqb-true first 36)
 
 -- an item does not begin with `as`
 as_first : (word : List ℕ) (rest : List (List ℕ)) → items_of (codes "as" ∷ word ∷ rest) ≡ None
@@ -106,12 +99,7 @@ named_begin args name h = rw (no_items args name h) refl
 named_kalloc : (args : List (List ℕ)) (name : List ℕ) → name_at_end args ≡ Some name
     → request_of (codes "kalloc" ∷ args) ≡ None
 unfolding request_of event_of request_of_two request_of_three request_of_four last_two
-named_kalloc [] name h = refl
-named_kalloc (a ∷ []) name h = absurd cc
-named_kalloc (a ∷ b ∷ []) name h = refl
-named_kalloc (a ∷ b ∷ c ∷ []) name h = refl
-named_kalloc (a ∷ b ∷ c ∷ d ∷ []) name h = refl
-named_kalloc (a ∷ b ∷ c ∷ d ∷ e ∷ more) name h = refl
+named_kalloc args name h = grind arith
 
 -- a verb by its test
 by_test : (P : List ℕ → Type 0) (verb word : List ℕ) (b : Bool) (rest : Option NameUse)
@@ -157,43 +145,23 @@ IsWorking verb =
 
 works_drainfor : IsWorking (codes "drainfor")
 unfolding request_of event_of event_of_number request_of_two request_of_three request_of_four
-works_drainfor name [] = refl
-works_drainfor name (a ∷ []) = rw (dollar_no_number 64 name) refl
-works_drainfor name (a ∷ b ∷ []) = refl
-works_drainfor name (a ∷ b ∷ c ∷ []) = refl
-works_drainfor name (a ∷ b ∷ c ∷ d ∷ more) = refl
+works_drainfor name rest = grind (arith, dollar_no_number 64 name)
 
 works_migrate : IsWorking (codes "migrate")
 unfolding request_of event_of event_of_number request_of_two request_of_three request_of_four
-works_migrate name [] = rw (dollar_no_number 64 name) refl
-works_migrate name (a ∷ []) = refl
-works_migrate name (a ∷ b ∷ []) = refl
-works_migrate name (a ∷ b ∷ c ∷ []) = refl
-works_migrate name (a ∷ b ∷ c ∷ d ∷ more) = refl
+works_migrate name rest = grind (arith, dollar_no_number 64 name)
 
 works_commit : IsWorking (codes "commit")
 unfolding request_of event_of event_of_number request_of_two request_of_three request_of_four
-works_commit name [] = rw (dollar_no_number 64 name) refl
-works_commit name (a ∷ []) = refl
-works_commit name (a ∷ b ∷ []) = refl
-works_commit name (a ∷ b ∷ c ∷ []) = refl
-works_commit name (a ∷ b ∷ c ∷ d ∷ more) = refl
+works_commit name rest = grind (arith, dollar_no_number 64 name)
 
 works_cancel : IsWorking (codes "cancel")
 unfolding request_of event_of event_of_number request_of_two request_of_three request_of_four
-works_cancel name [] = rw (dollar_no_number 64 name) refl
-works_cancel name (a ∷ []) = refl
-works_cancel name (a ∷ b ∷ []) = refl
-works_cancel name (a ∷ b ∷ c ∷ []) = refl
-works_cancel name (a ∷ b ∷ c ∷ d ∷ more) = refl
+works_cancel name rest = grind (arith, dollar_no_number 64 name)
 
 works_kfree : IsWorking (codes "kfree")
 unfolding request_of event_of event_of_number request_of_two request_of_three request_of_four
-works_kfree name [] = rw (dollar_no_number 32 name) refl
-works_kfree name (a ∷ []) = refl
-works_kfree name (a ∷ b ∷ []) = refl
-works_kfree name (a ∷ b ∷ c ∷ []) = refl
-works_kfree name (a ∷ b ∷ c ∷ d ∷ more) = refl
+works_kfree name rest = grind (arith, dollar_no_number 32 name)
 
 works_on : (verb : List ℕ) (kind : ResultKind) → use_of_verb verb ≡ Some (Takes kind) → IsWorking verb
 works_on verb kind h =
@@ -204,8 +172,7 @@ no_working_request : (verb word : List ℕ) (rest : List (List ℕ)) (name : Lis
     → use_of_verb verb ≡ Some (Takes kind) → after_dollar word ≡ Some name
     → request_of (verb ∷ word ∷ rest) ≡ None
 no_working_request verb word rest name kind h at =
-    ap (λ (w : List ℕ). request_of (verb ∷ w ∷ rest)) (dollar_word word name at)
-    ∙ works_on verb kind h name rest
+    rw (dollar_word word name at) (works_on verb kind h name rest)
 
 -- ---- lines
 

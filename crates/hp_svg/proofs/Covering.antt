@@ -1,6 +1,7 @@
 -- The runs of cells cover them.
-use Rattle.std.proofs.Common.{◌≡◌, ℕ, zero, suc, ◌+◌, ◌<◌, ◌==◌, Bool, cond, if◌then◌else◌, List, inl, inr, [], ◌∷◌, ◌++◌, drop, replicate, take, refl, sym, ap, subst, ◌∙◌, add-one, arith}
+use Rattle.std.proofs.Common.{◌≡◌, ℕ, zero, suc, ◌+◌, ◌<◌, ◌==◌, if◌then◌else◌, List, inl, inr, [], ◌∷◌, ◌++◌, drop, replicate, take, refl, sym, ap, subst, add-one, arith}
 use Rattle.std.proofs.lemmas.Bool.{cases_Bool, eqb-true}
+use Rattle.std.proofs.lemmas.List.{drop_at, length-replicate, take_at}
 use Rattle.hp_svg.specs.Runs.{Covers}
 use Rattle.hp_svg.specs.declared.runs.Run.{Run}
 
@@ -24,12 +25,10 @@ runs_from (mark ∷ cells) = runs_after (new_run 0 mark) cells
 
 -- n of one character, and others
 take_same : (n mark : ℕ) (cells : List ℕ) → take n (replicate n mark ++ cells) ≡ replicate n mark
-take_same zero mark cells = refl
-take_same (suc n) mark cells = ap (λ (xs : List ℕ). mark ∷ xs) (take_same n mark cells)
+take_same n mark cells = take_at (replicate n mark) cells n (length-replicate n mark)
 
 drop_same : (n mark : ℕ) (cells : List ℕ) → drop n (replicate n mark ++ cells) ≡ cells
-drop_same zero mark cells = refl
-drop_same (suc n) mark cells = drop_same n mark cells
+drop_same n mark cells = drop_at (replicate n mark) cells n (length-replicate n mark)
 
 one_more : (n mark : ℕ) (cells : List ℕ) → replicate n mark ++ mark ∷ cells ≡ replicate (suc n) mark ++ cells
 one_more zero mark cells = refl
@@ -43,26 +42,15 @@ run_covers run (mark ∷ cells) some = elim (cases_Bool (mark == run.mark)) [
   | inl same ↦
       let is : mark ≡ run.mark = eqb-true mark run.mark same in
       let text : replicate (run.count + 1) run.mark ++ cells ≡ replicate run.count run.mark ++ mark ∷ cells =
-      ap (λ (n : ℕ). replicate n run.mark ++ cells) (add-one run.count)
-      ∙ sym (one_more run.count run.mark cells)
-      ∙ ap (λ (m : ℕ). replicate run.count run.mark ++ m ∷ cells) (sym is)
-      in
-      subst (λ (b : Bool). Covers run.at
-      (cond b (runs_after (longer run) cells) (run ∷ runs_after (new_run (run.at + run.count) mark) cells))
-      (replicate run.count run.mark ++ mark ∷ cells)) (sym same)
-      (subst (λ (xs : List ℕ). Covers run.at (runs_after (longer run) cells) xs) text
-      (run_covers (longer run) cells (omega arith)))
-  | inr other ↦
-      subst (λ (b : Bool). Covers run.at
-      (cond b (runs_after (longer run) cells) (run ∷ runs_after (new_run (run.at + run.count) mark) cells))
-      (replicate run.count run.mark ++ mark ∷ cells)) (sym other) (
-        refl,
-        some,
-        take_same run.count run.mark (mark ∷ cells),
-        subst (λ (xs : List ℕ). Covers (run.at + run.count) (runs_after (new_run (run.at + run.count) mark)
-            cells) xs) (sym (drop_same run.count run.mark (mark ∷ cells)))
-            (run_covers (new_run (run.at + run.count) mark) cells (omega arith)),
-      )
+      rw (add-one run.count, is, one_more run.count run.mark cells) in
+      rw (same, ← text) (run_covers (longer run) cells (omega arith))
+  | inr other ↦ rw other (
+    refl,
+    some,
+    take_same run.count run.mark (mark ∷ cells),
+    rw (drop_same run.count run.mark (mark ∷ cells))
+        (run_covers (new_run (run.at + run.count) mark) cells (omega arith)),
+  )
 ]
 
 pub cells_covered : (cells : List ℕ) → Covers 0 (runs_from cells) cells

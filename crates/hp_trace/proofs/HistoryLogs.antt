@@ -1,5 +1,5 @@
 -- The log of the states that rows show is the log of the histories that lead to them.
-use Rattle.std.proofs.Common.{◌≡◌, ◌⊎◌, ℕ, Bool, true, false, ◌==◌, if◌then◌else◌, List, [], ◌∷◌, ◌++◌, length, append_assoc, Option, refl, sym, ap, ap₂, inl, inr, ◌∙◌, arith}
+use Rattle.std.proofs.Common.{◌≡◌, ◌⊎◌, ℕ, Bool, true, false, ◌==◌, if◌then◌else◌, List, [], ◌∷◌, ◌++◌, length, append_assoc, Option, refl, sym, ap, inl, inr, ◌∙◌, arith}
 use Rattle.std.proofs.lemmas.Bool.{eq-eqb, eqb-true}
 use Rattle.hp_units.specs.Boot.{boot_memory}
 use Rattle.hp_units.specs.History.{net_of, run, value_of}
@@ -88,16 +88,10 @@ called_turn : (m n : MachineValue) (cpu : ℕ) (event : Event) (r : Receipt) →
     → IsCalled m cpu event r n → TakesTurn m n
 called_turn m n cpu event r reached called = record {
   layout = called.layout;
-  reached =
-      called.state
-      ∙ ap₂ (λ (l : LayoutParts) (b : Memory). value_of l b n.history) (sym called.layout) (sym called.base);
+  reached = rw (called.layout, called.base) called.state;
   whole = λ rows asked answer moved ih.
-      sym (append_assoc (own_log m) (step_log m.layout m.state n.state) (rows_log n rows))
-      ∙ (ap (λ (xs : List LogEvent). xs ++ rows_log n rows) (sym (more_own m n cpu event r reached called))
-      ∙ (ih
-      ∙ (ap₂ (λ (l : LayoutParts) (b : Memory). log_of_all l b (histories n rows)) called.layout called.base
-      ∙ ap (λ (hs : List (List Record)). log_of_all m.layout m.base hs)
-      (sym (goes_on m n rows called.before)))));
+      rw (goes_on m n rows called.before, ← append_assoc, ← more_own m n cpu event r reached called)
+      (rw (← called.layout, ← called.base) ih);
 }
 
 sealed_turn : (m : MachineValue) → IsReached m → TakesTurn m (sealed m)
@@ -116,20 +110,14 @@ sealed_turn m reached = record {
     by_number rows ih true is =
         let later = histories (sealed m) rows in
         let none : m.history ≡ [] = empty m.history (omega (arith, eqb-true (sealed m).before m.before is)) in
-        let state : m.state ≡ m.base =
-        reached ∙ (ap (λ (h : List Record). value_of m.layout m.base h) none ∙ of_nothing m.layout m.base) in
-        ap (λ (xs : List LogEvent). own_log m ++ (xs ++ rows_log (sealed m) rows))
-        (step_none m.layout m.state)
-        ∙ (ap (λ (h : List Record). log_of m.layout m.base h ++ rows_log (sealed m) rows) none
-        ∙ (ih ∙ (ap (λ (s : Memory). log_of_all m.layout s later) state
-        ∙ ap (λ (b : Bool). log_of_all m.layout m.base (if b then later else m.history ∷ later)) (sym is))))
+        let state : m.state ≡ m.base = rw (reached, none, of_nothing m.layout m.base) in
+        rw (is, step_none m.layout m.state)
+        (ap (λ (h : List Record). log_of m.layout m.base h ++ rows_log (sealed m) rows) none
+        ∙ (ih ∙ ap (λ (s : Memory). log_of_all m.layout s later) state))
     by_number rows ih false is =
         let later = histories (sealed m) rows in
-        ap (λ (xs : List LogEvent). own_log m ++ (xs ++ rows_log (sealed m) rows))
-        (step_none m.layout m.state)
-        ∙ (ap (λ (xs : List LogEvent). own_log m ++ xs)
-        (ih ∙ ap (λ (s : Memory). log_of_all m.layout s later) reached)
-        ∙ ap (λ (b : Bool). log_of_all m.layout m.base (if b then later else m.history ∷ later)) (sym is))
+        rw (is, step_none m.layout m.state) (ap (λ (xs : List LogEvent). own_log m ++ xs)
+        (ih ∙ ap (λ (s : Memory). log_of_all m.layout s later) reached))
 
 -- ---- all turns
 

@@ -1,12 +1,12 @@
 -- Lines that are traced one after another.
-use Rattle.std.proofs.Common.{◌≡◌, ℕ, ◌+◌, ◌<◌, List, [], ◌∷◌, ◌++◌, length, get_or, drop, take, refl, sym, ap, subst, ◌∙◌, append_assoc, append-nil, arith}
+use Rattle.std.proofs.Common.{◌≡◌, ℕ, ◌+◌, ◌<◌, List, [], ◌∷◌, ◌++◌, length, get_or, drop, take, refl, ap, append_assoc, append-nil, arith}
 use Rattle.std.proofs.lemmas.List.{length-take-le, take_more}
 use Rattle.hp_machine.specs.Machine.{MachineValue, booted}
 use Rattle.hp_scenario.specs.Asked.{asked_by}
 use Rattle.hp_scenario.specs.Scenario.{ScenarioValue}
 use Rattle.hp_scenario.specs.declared.lines.Line.{Line}
 use Rattle.hp_trace.specs.Calls.{MakesWork}
-use Rattle.hp_trace.specs.Rows.{AreDrawn, Row, RowsValue, drawn_joined}
+use Rattle.hp_trace.specs.Rows.{Row, RowsValue, drawn_joined}
 use Rattle.hp_trace.specs.Traces.{IsScenarioTraced, IsStart, MakesLines, TracesLine, TracesLines, numbered_text, rows_if, shown_rows, skipped}
 use Rattle.hp_trace.specs.Views.{shows}
 use Rattle.hp_trace.specs.declared.rows.Form.{Form}
@@ -17,9 +17,7 @@ made_length : (names : List (List ℕ)) (first : ℕ) (xs : List Line) (m after 
     → MakesLines names first m xs lists after → length lists ≡ length xs
 made_length names first [] m after lists made = ap (λ (l : List (List Row)). length l) made.1
 made_length names first (x ∷ xs) m after lists made =
-    let count : length lists ≡ length (made.1 ∷ made.2) = ap (λ (l : List (List Row)). length l) made.4 in
-    let rest : length made.2 ≡ length xs = made_length names (first + 1) xs made.0 after made.2 made.5 in
-    omega (arith, count, rest)
+    rw (made.4, made_length names (first + 1) xs made.0 after made.2 made.5)
 
 made_more : (names : List (List ℕ)) (first last : ℕ) (xs : List Line) (line : Line)
     (m mid after : MachineValue) (lists : List (List Row)) (rows : List Row)
@@ -28,11 +26,9 @@ made_more : (names : List (List ℕ)) (first last : ℕ) (xs : List Line) (line 
     → MakesWork mid line.cpu (asked_by line.work) (numbered_text names last line) rows after
     → MakesLines names first m (xs ++ line ∷ []) (lists ++ rows ∷ []) after
 made_more names first last [] line m mid after lists rows at made one =
-    let here : last ≡ first = omega (arith, at) in
-    let work =
-    subst (λ (n : ℕ). MakesWork m line.cpu (asked_by line.work) (numbered_text names n line) rows after) here
-    (rw (← made.0) one) in
-    (after, rows, [], work, ap (λ (l : List (List Row)). l ++ rows ∷ []) made.1, (refl, refl))
+    let here : first ≡ last = omega (arith, at) in
+    let work = rw (made.0) at one in
+    (after, rows, [], rw here work, ap (λ (l : List (List Row)). l ++ rows ∷ []) made.1, (refl, refl))
 made_more names first last (x ∷ xs) line m mid after lists rows at made one =
     let here : last ≡ (first + 1) + length xs = omega (arith, at) in (
       made.0,
@@ -49,9 +45,7 @@ shown_more : (v : View) (first last : ℕ) (lists : List (List Row)) (rows : Lis
 shown_more v first last [] rows at = grind (arith, append-nil)
 shown_more v first last (l ∷ ls) rows at =
     let here : last ≡ (first + 1) + length ls = omega (arith, at) in
-    ap (λ (t : List Row). rows_if (shows v first) l ++ t) (shown_more v (first + 1) last ls rows here)
-    ∙ sym
-    (append_assoc (rows_if (shows v first) l) (shown_rows v (first + 1) ls) (rows_if (shows v last) rows))
+    rw (shown_more v (first + 1) last ls rows here, ← append_assoc)
 
 -- one more line after others
 pub line_more : (v : View) (names : List (List ℕ)) (before number : ℕ) (lines : List Line) (line : Line)
@@ -68,9 +62,7 @@ line_more v names before number lines line m mid after old between new at traced
       made =
           made_more names (before + 1) number lines line m mid after traced.lists one.rows at traced.made
           one.made;
-      drawn =
-          subst (λ (rows : List Row). AreDrawn rows old new)
-          (sym (shown_more v (before + 1) number traced.lists one.rows (omega (arith, at, made))))
+      drawn = rw (shown_more v (before + 1) number traced.lists one.rows (omega (arith, at, made)))
           (drawn_joined (shown_rows v (before + 1) traced.lists) (rows_if (shows v number) one.rows) old
           between new traced.drawn one.drawn);
     }
@@ -84,9 +76,8 @@ pub lines_more : (v : View) (names : List (List ℕ)) (before : ℕ) (lines : Li
     → TracesLines v names before m (take (i + 1) lines) old new after
 lines_more v names before lines i line m mid after old between new within at traced one =
     let count : length (take i lines) ≡ i = length-take-le i lines (omega (arith, within)) in
-    rw (take_more lines i line within ∙ ap (λ (x : Line). take i lines ++ x ∷ []) (sym at)) (line_more v
-    names before (before + i + 1) (take i lines) line m mid after old between new (omega (arith, count))
-    traced one)
+    rw (take_more lines i line within, ← at) (line_more v names before (before + i + 1) (take i lines) line m
+    mid after old between new (omega (arith, count)) traced one)
 
 -- the lines before those that may be shown, and the others
 pub scenario_traced : (form : Form) (v : View) (s : ScenarioValue) (lines front back : List Line) (n : ℕ)

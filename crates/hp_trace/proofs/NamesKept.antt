@@ -1,5 +1,5 @@
 -- The names of later lines do not change how a line is written.
-use Rattle.std.proofs.Common.{◌≡◌, ℕ, ◌<◌, not, Bool, true, false, List, [], ◌∷◌, ◌++◌, length, Option, Some, None, refl, sym, ap, subst, ◌∙◌, append_assoc, append-nil, arith, if◌then◌else◌, option_map}
+use Rattle.std.proofs.Common.{◌≡◌, ℕ, ◌<◌, not, Bool, true, false, List, [], ◌∷◌, ◌++◌, length, Option, Some, None, refl, sym, ap, ◌∙◌, append_assoc, append-nil, arith, if◌then◌else◌, option_map}
 use Rattle.std.specs.Prelude.{codes}
 use Rattle.std.specs.Fmt.{decimal}
 use Rattle.std.specs.List.{AllByRecursion, list_any, position_or_len}
@@ -104,8 +104,7 @@ line_kept names text n read = by_said (line_says text) refl read
         → IsKept names n
     by_said None is read = absurd (none-some n read)
     by_said (Some said) is read =
-        subst (λ (k : Numbered). IsKept names k) (same_Some (numbered names said) n read)
-        (said_kept names said ((lines_law text said).0 is).1.1)
+        rw (← same_Some (numbered names said) n read) (said_kept names said ((lines_law text said).0 is).1.1)
 
 -- ---- lines read one after another
 
@@ -121,11 +120,7 @@ lines_kept names (n ∷ read) last are =
     let rest = lines_kept n.names read last are.2 in (
       one.more ++ rest.0,
       rest.1 ∙ ap (λ (l : List (List ℕ)). l ++ rest.0) one.grown ∙ append_assoc names one.more rest.0,
-      (
-        subst (λ (l : List (List ℕ)). shown_line Escaped n.names n.line ≡ shown_line Escaped l n.line)
-            (sym rest.1) (one.alike rest.0),
-        rest.2,
-      ),
+      (rw rest.1 (one.alike rest.0), rest.2),
     )
 
 pub all_written_alike : (names : List (List ℕ)) (read : List Numbered) (last : List (List ℕ))

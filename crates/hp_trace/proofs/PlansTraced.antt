@@ -1,6 +1,6 @@
 -- What calls of a plan's driver made of the machine and of the rows, for whoever drives a port that
 -- draws them.
-use Rattle.std.proofs.Common.{arith, ◌≡◌, ℕ, Bool, true, false, ◌||◌, not, IsTrue, List, [], ◌∷◌, ◌++◌, Option, None, refl, sym, ap, subst, ◌∙◌, true≢false}
+use Rattle.std.proofs.Common.{arith, ◌≡◌, ℕ, Bool, true, false, ◌||◌, not, IsTrue, List, [], ◌∷◌, ◌++◌, Option, None, refl, sym, ap, ◌∙◌, true≢false}
 use Rattle.hp_units.specs.Driver.{IsDriverRun}
 use Rattle.hp_units.specs.declared.plans.Item.{Item}
 use Rattle.hp_units.specs.declared.replies.CallFault.{CallFault}
@@ -93,13 +93,7 @@ plan_added m after cpu turns plan copied end asked old head steps new same drawn
   rows = drawing asked [] None m ∷ (a.rows ++ words (plan_line end) ∷ []);
   drawn =
       (head, drawn, drawn_joined a.rows (words (plan_line end) ∷ []) head steps new a.drawn (new, is, refl));
-  is =
-      record {
-        steps = a.rows;
-        end = end;
-        driven = subst (λ (p : List Item). IsDriven m cpu turns p end a.rows after) same a.is;
-        is = refl;
-      };
+  is = record { steps = a.rows; end = end; driven = rw (← same) a.is; is = refl };
 }
 
 -- one call of a plan

@@ -1,5 +1,5 @@
 -- A row as text.
-use Rattle.std.proofs.Common.{arith, ◌≡◌, ℕ, List, ◌++◌, ◌∙◌, Some, Result, OnOk, ap, append_assoc, subst, sym}
+use Rattle.std.proofs.Common.{arith, ◌≡◌, ℕ, List, ◌++◌, ◌∙◌, Some, Result, OnOk, ap, append_assoc, sym}
 use Rattle.std.specs.Prelude.{codes}
 use Rattle.hp_machine.specs.Machine.{MachineValue}
 use Rattle.hp_map.specs.Rows.{RowValue}
@@ -15,12 +15,8 @@ pub row_in : (asked answer below beside memory old new was_asked was_answered : 
     ≡ old ++ (was_asked ++ (below ++ (codes " " ++ (was_answered ++ (beside ++ (memory ++ codes "\n"))))))
     → IsRowIn asked answer old new
 row_in asked answer below beside memory old new was_asked was_answered is_asked is_answered written =
-    rw (← is_asked) (subst (λ (a : List ℕ). IsRowIn was_asked a old new) is_answered (record {
-      gap = below
-          ++ codes " ";
-      memory = beside ++ memory;
-      is = simp append_assoc written;
-    }))
+    rw (← is_asked, ← is_answered)
+    (record { gap = below ++ codes " "; memory = beside ++ memory; is = simp append_assoc written })
 
 pub row_written : (row : RowValue) (old inside : RowsValue) (text : List ℕ) (kept : List RowValue)
     → old ≡ inside → IsRowIn row.asked row.answer inside.text text

@@ -10,6 +10,7 @@ use Rattle.hp_units.specs.Pages.{page_from}
 use Rattle.hp_units.specs.Placement.{IsWellPlaced}
 use Rattle.hp_pages.specs.Pages.{PagesValue}
 use Rattle.hp_pages.specs.Places.{holders}
+use Rattle.hp_laws.proofs.Lists.{take_next}
 use Rattle.hp_tape.specs.Deltas.{page_frames_of}
 use Rattle.hp_step_logs.specs.declared.holders.FrameHolder.{FrameHolder}
 use Rattle.hp_step_logs.specs.Snapshots.{holder_by, holder_of}
@@ -42,12 +43,6 @@ one_more f n = map-range_with_len_more f 0 n n (omega arith)
 -- ---- rows
 
 -- one item more, or none
-take_next : {X : Type 0} (xs : List X) (n : ℕ) (x : X) → slice_get xs n ≡ Some x
-    → take (suc n) xs ≡ take n xs ++ x ∷ []
-take_next [] n x at = cc
-take_next (y ∷ ys) zero x at = let same : y ≡ x = cc in ap (λ z. z ∷ []) same
-take_next (y ∷ ys) (suc n) x at = ap (λ zs. y ∷ zs) (take_next ys n x at)
-
 take_end : {X : Type 0} (xs : List X) (n : ℕ) → slice_get xs n ≡ None → take (suc n) xs ≡ take n xs
 take_end [] zero at = refl
 take_end [] (suc n) at = refl

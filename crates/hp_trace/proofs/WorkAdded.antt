@@ -1,5 +1,5 @@
 -- Rows that were drawn are those that a line's work makes.
-use Rattle.std.proofs.Common.{arith, ◌≡◌, ℕ, true, List, [], ◌∷◌, length, inl, inr, refl, subst}
+use Rattle.std.proofs.Common.{arith, ◌≡◌, ℕ, true, List, [], ◌∷◌, length, inl, inr, refl}
 use Rattle.hp_units.specs.declared.events.Event.{Event}
 use Rattle.hp_units.specs.declared.replies.CallFault.TheVariants.{HistoryFull}
 use Rattle.hp_units.specs.declared.replies.Receipt.{Receipt}
@@ -32,8 +32,7 @@ pub full_added : (m after : MachineValue) (cpu : ℕ) (event : Event) (asked : L
     → Adds old new (λ rows. MakesEvent m cpu event asked rows after)
 full_added m after cpu event asked old new full same drawn = record {
   rows = noted m asked (unrecorded_line HistoryFull);
-  drawn =
-      subst (λ (k : MachineValue). AreDrawn (noted k asked (unrecorded_line HistoryFull)) old new) same drawn;
+  drawn = rw same at drawn;
   is = inr (full, same, refl);
 }
 

@@ -1,9 +1,7 @@
-use Rattle.std.proofs.Common.{◌≡◌, ℕ, ◌+◌, List, [], get_or, Option, take, drop, set, sym, ap, subst, ◌∙◌, arith}
+use Rattle.std.proofs.Common.{◌≡◌, ℕ, List, [], get_or, Option, ap, ◌∙◌, arith}
 use Rattle.std.proofs.lemmas.List.{get_or-set_same}
-use Rattle.hp_machine.specs.Machine.{MachineValue}
 use Rattle.hp_scenario.specs.declared.lines.Line.{Line}
-use Rattle.hp_names.specs.Resolved.{RunsFront, line_with, number_at}
-use Rattle.hp_names.specs.Runs.{RunsLine}
+use Rattle.hp_names.specs.Resolved.{line_with, number_at}
 use Rattle.hp_names.proofs.FrontRuns.{later_stay, runs_more}
 use Rattle.hp_names.proofs.resolve.run_front.Goals as goal
 
@@ -19,12 +17,9 @@ loop-index-preserved c =
     (c.number_at-number.ensures ∙ (ap (λ (ns : List ℕ). number_at ns c.source_at.result) c.deref.ensures.value
     ∙ ap (number_at c.loop-index.numbers.items) c.source_at.ensures)) in
     let one =
-    subst (λ (l : Line). RunsLine c.loop-index.machine l c.run_line.new.machine c.in_ok-number.number)
-    (get_or-set_same lines at new _ (omega arith)) c.in_ok-number.ensures in
+    rw (get_or-set_same lines at new _ (omega arith)) at c.in_ok-number.ensures in
     record {
-      ran = subst (λ (ns : List ℕ). RunsFront c.in_ok-machine.machine [] c.args.sources.now
-          (take (at + 1) c.args.lines.now) (take (at + 1) (set lines at new)) c.run_line.new.machine ns)
-          (sym c.in_ok-push.ensures.items)
+      ran = rw c.in_ok-push.ensures.items
           (runs_more c.args.lines.now lines at line new c.args.sources.now c.in_ok-machine.machine
           c.loop-index.machine c.run_line.new.machine [] c.loop-index.numbers.items c.in_ok-number.number
           (omega arith) (omega arith) c.loop-index.invariant.later
@@ -34,17 +29,12 @@ loop-index-preserved c =
 
 pub returns-clause-run : goal.returns-clause-run
 returns-clause-run c =
-    let at : c.loop-index.index ≡ c.args.front = omega arith in (
+    let all : c.loop-index.index ≡ c.args.front = omega arith in (
       c.loop-index.machine,
-      subst (λ (m : MachineValue). RunsFront m [] c.args.sources.now (take c.args.front c.args.lines.now)
-          (take c.args.front c.loop-index.lines) c.loop-index.machine c.loop-index.numbers.items)
-          c.in_ok-machine.ensures
-          (subst (λ (n : ℕ). RunsFront c.in_ok-machine.machine [] c.args.sources.now (take n c.args.lines.now)
-          (take n c.loop-index.lines) c.loop-index.machine c.loop-index.numbers.items) at
-          c.loop-index.invariant.ran),
+      rw c.in_ok-machine.ensures at (rw all at c.loop-index.invariant.ran),
     )
 
 pub returns-clause-later : goal.returns-clause-later
 returns-clause-later c =
-    let at : c.loop-index.index ≡ c.args.front = omega arith in
-    subst (λ (n : ℕ). drop n c.loop-index.lines ≡ drop n c.args.lines.now) at c.loop-index.invariant.later
+    let all : c.loop-index.index ≡ c.args.front = omega arith in
+    rw all at c.loop-index.invariant.later

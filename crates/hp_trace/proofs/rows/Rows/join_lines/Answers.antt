@@ -1,8 +1,7 @@
-use Rattle.std.proofs.Common.{◌≡◌, ℕ, List, [], None, subst, rules}
+use Rattle.std.proofs.Common.{◌≡◌, [], None, rules}
 use Rattle.std.proofs.lemmas.Iterator.Consumers.{YieldsList-end}
 use Rattle.std.proofs.lemmas.Iterator.Splits.{YieldsList-from_lines}
 use Rattle.hp_map.specs.Rows.{row_with}
-use Rattle.hp_trace.specs.Rows.{AreJoinedTo, line_rows}
 use Rattle.hp_trace.proofs.RowsJoined.{line_joined}
 use Rattle.hp_trace.proofs.rows.Rows.join_lines.Goals as goal
 
@@ -17,5 +16,4 @@ returns c =
     let end =
     YieldsList-end (YieldsList-from_lines c.args.text.now cc) c.loop-line.yielded _
     c.loop-line.yielded_by _ _ c.in-None.is c.next.ensures.steps in
-    subst (λ (texts : List (List ℕ)). AreJoinedTo (line_rows texts) c.args.self.now c.loop-line.self) end.0
-    c.loop-line.invariant
+    rw (← end.0) c.loop-line.invariant
