@@ -37,12 +37,10 @@ apart_other e old new adds ok i j a b h k same =
     elim (get_push_cases old adds.entry a i h) [
       | inl c ↦ elim (get_push_cases old adds.entry b j k) [
         | inl d ↦ ok i j a b c d same
-        | inr d ↦
-            absurd (adds.none i a c (same ∙ (sym (ap (λ (f : Ending). f.outcome) d.1) ∙ adds.outcome_is)))
+        | inr d ↦ absurd (adds.none i a c (cc))
       ]
       | inr c ↦ elim (get_push_cases old adds.entry b j k) [
-        | inl d ↦
-            absurd (adds.none j b d (sym same ∙ (sym (ap (λ (f : Ending). f.outcome) c.1) ∙ adds.outcome_is)))
+        | inl d ↦ absurd (adds.none j b d (cc))
         | inr d ↦ c.0 ∙ sym d.0
       ]
     ]
@@ -72,9 +70,7 @@ sum_more e old new adds =
 pub sum_other : (e : Ending) (old new : List Ending) (adds : AddsOther old e new)
     → sum_by (λ (f : Ending). f.count) (old ++ adds.entry ∷ [])
     ≡ sum_by (λ (f : Ending). f.count) old + e.count
-sum_other e old new adds =
-    sum_by_push (λ (f : Ending). f.count) old adds.entry
-    ∙ ap (λ (n : ℕ). sum_by (λ (f : Ending). f.count) old + n) adds.count
+sum_other e old new adds = rw (sum_by_push (λ (f : Ending). f.count) old adds.entry, adds.count)
 
 pub sum_added : (e : Ending) (old new : List Ending) → AddsEnd old e new
     → sum_by (λ (f : Ending). f.count) new ≡ sum_by (λ (f : Ending). f.count) old + e.count

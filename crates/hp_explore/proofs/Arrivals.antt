@@ -65,15 +65,10 @@ pub followed : (p : PathValue) (cpu : ℕ) (event : Event) (latest : Record) (cu
     → AreCursors g (news ++ latest ∷ []) cursors → AreFollowed g (news ++ latest ∷ []) new)
     → AreFollowed p.setting (p.news ++ record_of_call p.setting p.news cpu event ∷ []) new
 followed p cpu event latest cursors old new asked is mergeable way at on =
-    subst (λ (r : Record). AreFollowed p.setting (p.news ++ r ∷ []) new) is
-    (on p.setting p.news way leaves
-    (subst (λ (r : Record). AreCursors p.setting (p.news ++ r ∷ []) cursors) (sym is) at))
+    rw is at (on p.setting p.news way leaves (rw is at))
   where
     leaves : old.is_on ≡ true → leaves_steps (effect_of latest.event) ≡ true
-    leaves set =
-        subst (λ (e : Event). leaves_steps (effect_of e) ≡ true)
-        (sym (ap (λ (r : Record). r.event) is ∙ event_kept p.setting p.news cpu event))
-        (call_leaves p.setting p.news cpu event (mergeable set) asked)
+    leaves set = rw (is, event_kept) (call_leaves p.setting p.news cpu event (mergeable set) asked)
 
 -- and leads to a place
 pub comes_to : (aim : AimValue) (p q : PathValue) (s t : List ℕ) (next : ℕ) (latest : Record)
@@ -90,18 +85,15 @@ pub comes_to : (aim : AimValue) (p q : PathValue) (s t : List ℕ) (next : ℕ) 
     → IsArriving aim (search_at q t next new)
 comes_to aim p q s t next latest cursors old new v is here played forth longer tried last at on keys keep
     way =
-    subst (λ (r : PathValue). IsArriving aim (search_at r t next new)) (sym forth.3)
-    (subst (λ (u : List ℕ). IsArriving aim (search_at (path_of p.setting
-    (p.news ++ record_of_call p.setting p.news next forth.0 ∷ [])) u next new)) (sym longer)
-    (arriving aim (search_at p s next old) forth.0 new next played there forth.2 tried
+    rw (forth.3, longer) (arriving aim (search_at p s next old) forth.0 new next played there forth.2 tried
     (stops_kept p.setting aim s old new on keys keep there.visited)
     (followed p next forth.0 latest cursors old new forth.1
     (last p.news (record_of_call p.setting p.news next forth.0) (ap (λ (x : PathValue). x.news) forth.3))
     there.visited.mergeable there.way
-    (subst (λ (x : PathValue). AreCursors x.setting x.news cursors) forth.3 at) way)))
+    (rw forth.3 at at) way))
   where
     there : IsSearching aim (search_at p s next old)
-    there = subst (IsSearching aim) (sym is) here
+    there = rw is here
 
 -- so that is the turn
 pub turn_near : (aim : AimValue) (p q : PathValue) (s t : List ℕ) (next : ℕ) (old new : Visited)
@@ -122,8 +114,7 @@ turn_near aim p q s t next old new v u turn is less here forth longer arrived =
 pub on_the_way : (aim : AimValue) (v : SearchValue) (w : Visited) → (here : IsArriving aim v)
     → AreVisited v.path.setting aim here.call.before w → AreVisited v.path.setting aim v.schedule w
 on_the_way aim v w here visited =
-    subst (λ (s : List ℕ). AreVisited v.path.setting aim s w) (sym here.call.longer)
-    (visited_longer v.path.setting aim here.call.before here.call.cpu w visited)
+    rw here.call.longer (visited_longer v.path.setting aim here.call.before here.call.cpu w visited)
 
 -- it is looked up
 pub looked_up : (aim : AimValue) (v : SearchValue) (new : Visited) (known : Bool)
@@ -147,16 +138,10 @@ pub looked_up_done : (aim : AimValue) (v : SearchValue) (new : Visited) (known :
     → IsLookedUp v.path.setting aim v.path.news v.visited new known → known ≡ true
     → IsDone v.path.setting aim v.schedule
 looked_up_done aim v new true lawful here played admitted on keep is told =
-    subst (IsDone v.path.setting aim) (sym here.schedule)
-    (known_done v.path.setting aim here.call.before here.call.cpu v.path.news new lawful played
-    (sym here.schedule ∙ here.call.longer) (subst aim.admits here.schedule admitted)
+    rw here.schedule (known_done v.path.setting aim here.call.before here.call.cpu v.path.news new lawful
+    played (sym here.schedule ∙ here.call.longer) (rw (← here.schedule) admitted)
     (stops_kept v.path.setting aim here.call.before v.visited new on is.0 keep here.visited) is.1)
 looked_up_done aim v new false lawful here played admitted on keep is told = absurd cc
-
--- a place that the aim does not admit is done too
-pub skipped_done : (g : Setting) (aim : AimValue) (place : List ℕ) → MayBeSkipped aim place
-    → IsDone g aim place
-skipped_done g aim place skipped = (skipped.0, λ whole. absurd (skipped.1 whole))
 
 -- a place to be tried
 pub new_place : (aim : AimValue) (v : SearchValue) (q : PathValue) (t : List ℕ) (later : Visited)
@@ -164,6 +149,4 @@ pub new_place : (aim : AimValue) (v : SearchValue) (q : PathValue) (t : List ℕ
     → AreVisited v.path.setting aim v.schedule later
     → AreFollowed v.path.setting v.path.news later → HasArrived aim v (search_at q t 0 later) New
 new_place aim v q t later here admitted path schedule visited way =
-    subst (λ (r : PathValue). HasArrived aim v (search_at r t 0 later) New) (sym path)
-    (subst (λ (s : List ℕ). HasArrived aim v (search_at v.path s 0 later) New) (sym schedule)
-    (opened aim v later here admitted visited way))
+    rw (path, schedule) (opened aim v later here admitted visited way)

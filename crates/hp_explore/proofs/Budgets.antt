@@ -1,14 +1,12 @@
 -- Budgets of changes, and what a search within one found.
-use Rattle.std.proofs.Common.{◌≡◌, ℕ, ◌<◌, ◌≤◌, Bool, false, true, List, [], ◌++◌, length, Option, Some, None, refl, ap, sym, subst, ◌∙◌, arith, inl, inr}
+use Rattle.std.proofs.Common.{◌≡◌, ℕ, Bool, false, true, List, [], ◌++◌, length, Option, Some, None, refl, ap, sym, subst, ◌∙◌, arith, inl, inr}
 use Rattle.std.specs.Option.{is_some}
-use Rattle.std.specs.Prelude.{◌⊎◌, ◌↔◌, IsTrue, not}
+use Rattle.std.specs.Prelude.{◌↔◌, IsTrue, not}
 use Rattle.std.proofs.lemmas.Bool.{cases_lt}
 use Rattle.hp_units.specs.History.{value_of}
 use Rattle.hp_units.specs.declared.replies.Record.{Record}
-use Rattle.hp_schedules.specs.Outcomes.{outcome}
 use Rattle.hp_schedules.specs.Schedules.{Setting, outcome_after, plays, schedule_of}
 use Rattle.hp_questions.specs.Marks.{IsLost}
-use Rattle.hp_questions.specs.Wanted.{Meets}
 use Rattle.hp_questions.specs.declared.wanted.Wanted.{Wanted}
 use Rattle.hp_explore.specs.Aims.{FillsSearch, IsFirstSought, IsSearchCause, MayBeSkipped}
 use Rattle.hp_explore.specs.Changes.{changes}
@@ -17,7 +15,7 @@ use Rattle.hp_explore.specs.FindFaults.{IsPassCause}
 use Rattle.hp_explore.specs.Reaching.{Exceeds, IfUnbounded, IsFirstWithin, IsWithin, Reaches}
 use Rattle.hp_explore.specs.Withins.{aim_within}
 use Rattle.hp_explore.specs.declared.fault.FindFault.{FindFault}
-use Rattle.hp_explore.specs.declared.fault.FindFault.TheVariants.{HistoryFull, OutOfMemory, Stopped}
+use Rattle.hp_explore.specs.declared.fault.FindFault.TheVariants.{HistoryFull}
 use Rattle.hp_explore.proofs.Growing.{changes_longer}
 
 -- ---- budgets
@@ -30,11 +28,7 @@ not_both (Some b) s within past = omega (arith, within, past)
 -- what is not within it is past it
 past_if : (budget : Option ℕ) (s : List ℕ) → (IsWithin budget s → ⊥) → Exceeds budget s
 past_if None s not = not tt
-past_if (Some b) s not = by_place (cases_lt b (changes s))
-  where
-    by_place : (b < changes s) ⊎ (changes s ≤ b) → b < changes s
-    by_place (inl more) = more
-    by_place (inr few) = absurd (not few)
+past_if (Some b) s not = elim (cases_lt b (changes s)) [ inl more ↦ more | inr few ↦ absurd (not few) ]
 
 -- no changes are within each
 pub within_none : (budget : Option ℕ) → IsWithin budget []
@@ -44,8 +38,7 @@ within_none (Some b) = omega arith
 -- what continues from a schedule past it is past it
 exceeds_longer : (budget : Option ℕ) (p q : List ℕ) → Exceeds budget p → Exceeds budget (p ++ q)
 exceeds_longer None p q past = past
-exceeds_longer (Some b) p q past =
-    let more : changes p ≤ changes (p ++ q) = changes_longer p q in omega (arith, more, past)
+exceeds_longer (Some b) p q past = omega (arith, changes_longer p q, past)
 
 -- ---- what need not be tried
 
@@ -71,9 +64,7 @@ lost_skipped g wanted (Some b) news some played lost = (
       let more = continued g (schedule_of news) on.0 news sought.0.1.news played
       (ap (plays g) (sym on.1) ∙ sought.0.1.played) in
       lost more.0 g.layout (value_of g.layout g.base (g.start ++ sought.0.1.news))
-      (subst (Meets g.layout.cpus g.scripts wanted) (sym sought.0.1.ends
-      ∙ ap (λ (h : List Record). outcome (length g.scripts) h g.layout
-      (value_of g.layout g.base (g.start ++ sought.0.1.news))) more.1) sought.0.2),
+      (rw (← more.1, sought.0.1.ends) sought.0.2),
   λ whole. cc,
 )
 
@@ -90,8 +81,7 @@ pub first_within : (g : Setting) (wanted lines : List Wanted) (budget most : Opt
     → IsFirstWithin g wanted budget found
 first_within g wanted lines budget most found same left first =
     by_found found
-    (subst (λ (b : Option ℕ). IsFirstSought g (aim_within g wanted b) found) left
-    (subst (λ (w : List Wanted). IsFirstSought g (aim_within g w most) found) same first))
+    (rw (← left, ← same) first)
   where
     by_found : (found : Option (List ℕ)) → IsFirstSought g (aim_within g wanted budget) found
         → IsFirstWithin g wanted budget found
@@ -118,8 +108,7 @@ pass_cause g wanted lines budget most HistoryFull same left full =
       few = cause.tried;
       passed = λ s reaches before. past_if budget s (λ within. cause.none s (reaches, within) before);
     }
-pass_cause g wanted lines budget most OutOfMemory same left full = tt
-pass_cause g wanted lines budget most Stopped same left full = tt
+pass_cause g wanted lines budget most fault same left full = tt
 
 -- ---- a place that is asked
 

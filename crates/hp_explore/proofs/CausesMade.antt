@@ -1,6 +1,6 @@
 -- The numbers of the causes of all processors, one processor after another.
-use Rattle.std.proofs.Common.{◌≡◌, ℕ, suc, ◌+◌, List, [], ◌++◌, length, refl, ap, sym, subst, ◌∙◌, arith}
-use Rattle.std.proofs.lemmas.List.{append-nil, append_assoc}
+use Rattle.std.proofs.Common.{◌≡◌, ℕ, suc, ◌+◌, List, ◌++◌, length, refl, ap, ◌∙◌, arith}
+use Rattle.std.proofs.lemmas.List.{append_assoc}
 use Rattle.hp_units.specs.declared.replies.Record.{Record}
 use Rattle.hp_schedules.specs.Causes.{IsCaused}
 use Rattle.hp_schedules.specs.Schedules.{Setting}
@@ -11,9 +11,6 @@ abbrev pub HasCauses : Setting → (cpus : ℕ) → List Record → (old new : L
 HasCauses g cpus news old new =
     (part : List ℕ) × (new ≡ old ++ part) × AreCausedBelow g cpus news part
 
-pub no_causes : (g : Setting) (news : List Record) (old : List ℕ) → HasCauses g 0 news old old
-no_causes g news old = ([], sym (append-nil old), refl)
-
 pub causes_more : (g : Setting) (cpu : ℕ) (news : List Record) (old mid new : List ℕ)
     → HasCauses g cpu news old mid
     → ((part : List ℕ) × (new ≡ mid ++ part) × (length part ≡ 2) × IsCaused g cpu news part)
@@ -22,6 +19,5 @@ causes_more g cpu news old mid new so_far more = (
   so_far.0 ++ more.0,
   more.1 ∙ (ap (λ (xs : List ℕ). xs ++ more.0) so_far.1 ∙ append_assoc old so_far.0 more.0),
   let next : suc cpu ≡ cpu + 1 = omega arith in
-      subst (λ (n : ℕ). AreCausedBelow g n news (so_far.0 ++ more.0)) next
-      (so_far.0, more.0, refl, more.2, more.3, so_far.2),
+      rw (← next) (so_far.0, more.0, refl, more.2, more.3, so_far.2),
 )

@@ -1,8 +1,7 @@
 -- The room for the calls of a schedule that grows and is taken back.
-use Rattle.std.proofs.Common.{◌≡◌, ℕ, ◌+◌, false, List, [], ◌∷◌, ◌++◌, length, Option, Some, None, refl, ap, sym, ◌∙◌, arith, inl, inr}
+use Rattle.std.proofs.Common.{◌≡◌, ℕ, ◌+◌, false, List, [], ◌∷◌, ◌++◌, length, Some, None, ap, sym, ◌∙◌, arith, inl, inr}
 use Rattle.std.proofs.lemmas.List.{append-nil, append_assoc, length-append, length_push, same_from_push}
 use Rattle.std.proofs.lemmas.Option.{none-some}
-use Rattle.hp_units.specs.declared.events.Event.{Event}
 use Rattle.hp_units.specs.declared.replies.Record.{Record}
 use Rattle.hp_states.specs.Rooms.{is_full_after}
 use Rattle.hp_states.specs.Walks.{HasRoomBefore, HasRoomFrom}
@@ -10,20 +9,12 @@ use Rattle.hp_schedules.specs.Schedules.{Setting, next_call, plays, record_of_ca
 use Rattle.hp_schedules.proofs.Plays.{asks_within, plays_push, stops}
 use Rattle.hp_schedules.proofs.Regions.{before_first, before_longer, before_next, extends_before}
 use Rattle.hp_states.proofs.Rooms.{push_extends, was_room}
+use Rattle.hp_explore.proofs.Continued.{goes_within}
 use Rattle.hp_explore.specs.Reaching.{HasRoomAlong}
 
 -- no call has room
 pub room_none : (g : Setting) → HasRoomAlong g []
-room_none g fills =
-    let all : length ((fills.0 ++ fills.1.cpu ∷ []) ++ fills.2.0)
-    ≡ length (fills.0 ++ fills.1.cpu ∷ []) + length fills.2.0 =
-    length-append (fills.0 ++ fills.1.cpu ∷ []) fills.2.0 in
-    absurd (omega (
-      arith,
-      all,
-      length_push fills.0 fills.1.cpu,
-      ap (λ (s : List ℕ). length s) fills.2.1,
-    ))
+room_none g fills = absurd (grind (arith, length-append, length_push, ap length fills.2.1))
 
 -- one call more
 pub room_push : (g : Setting) (p : List ℕ) (news : List Record) (cpu : ℕ) → HasRoomAlong g p
@@ -75,26 +66,18 @@ pub spared_from : (g : Setting) (p : List ℕ) (news : List Record) → plays g 
     → HasRoomBefore g (p ++ length g.scripts ∷ []) → HasRoomFrom g p
 spared_from g p news played room s h on = by_rest on.0 on.1
   where
-    here : s ≡ p → ⊥
-    here is =
+    by_rest : (rest : List ℕ) → s ≡ p ++ rest → ⊥
+    by_rest [] is =
         room s h (extends_before (s ++ h.cpu ∷ []) p h.cpu (length g.scripts)
         (asks_within g h.news h.cpu h.event h.asked)
-        ([], ap (λ (t : List ℕ). t ++ h.cpu ∷ []) is ∙ sym (append-nil (p ++ h.cpu ∷ []))))
-
-    by_next : (c : ℕ) (rest : List ℕ) → s ≡ p ++ c ∷ rest → (o : Option Event) → next_call g c news ≡ o → ⊥
-    by_next c rest is None over =
-        none-some h.news (sym (ap (plays g) is ∙ stops g p rest news c played over) ∙ h.played)
-    by_next c rest is (Some e) asks =
-        room s h
-        (extends_before (s ++ h.cpu ∷ []) p c (length g.scripts) (asks_within g news c e asks) (
+        ([], ap (λ (t : List ℕ). t ++ h.cpu ∷ []) (is ∙ append-nil p) ∙ sym (append-nil (p ++ h.cpu ∷ []))))
+    by_rest (c ∷ rest) is =
+        room s h (extends_before (s ++ h.cpu ∷ []) p c (length g.scripts)
+        (goes_within g p rest c news h.news played (ap (plays g) (sym is) ∙ h.played)) (
           rest ++ h.cpu ∷ [],
           ap (λ (t : List ℕ). t ++ h.cpu ∷ []) is
               ∙ (append_assoc p (c ∷ rest) (h.cpu ∷ []) ∙ sym (append_assoc p (c ∷ []) (rest ++ h.cpu ∷ []))),
         ))
-
-    by_rest : (rest : List ℕ) → s ≡ p ++ rest → ⊥
-    by_rest [] is = here (is ∙ append-nil p)
-    by_rest (c ∷ rest) is = by_next c rest is (next_call g c news) refl
 
 -- past a place, for each of whose calls there is room
 pub spared_up : (g : Setting) (p : List ℕ) (cpu : ℕ) → HasRoomAlong g (p ++ cpu ∷ [])

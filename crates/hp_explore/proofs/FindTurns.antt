@@ -11,28 +11,17 @@ one_less n next x less =
 -- past a continuation
 pub left_past : (n calls : ℕ) (p : List ℕ) (next : ℕ) → next < n
     → turns_left n calls p (next + 1) < turns_left n calls p next
-left_past n calls [] next less =
-    let e = one_less n next (turns_below n calls + 2) less in
-    omega (arith, e)
-left_past n calls (c ∷ p) next less =
-    let rest : turns_left n (calls - 1) p (next + 1) < turns_left n (calls - 1) p next =
-    left_past n (calls - 1) p next less in
-    omega (arith, rest)
+left_past n calls [] next less = omega (arith, one_less n next (turns_below n calls + 2) less)
+left_past n calls (c ∷ p) next less = omega (arith, left_past n (calls - 1) p next less)
 
 -- to the first continuation of a continuation
 pub left_down : (n calls : ℕ) (p : List ℕ) (next : ℕ) → next < n → length p < calls
     → turns_left n calls (p ++ next ∷ []) 0 < turns_left n calls p next
 left_down n zero [] next less room = absurd (omega (arith, room))
-left_down n (suc calls) [] next less room =
-    let e = one_less n next (turns_below n (suc calls) + 2) less in
-    let same : suc calls - 1 ≡ calls = omega arith in
-    let all : n - 0 ≡ n = omega arith in
-    rw (same, all) (omega (arith, e))
+left_down n (suc calls) [] next less room = grind (arith, one_less)
 left_down n calls (c ∷ p) next less room =
     let shorter : length p < calls - 1 = omega (arith, room) in
-    let rest : turns_left n (calls - 1) (p ++ next ∷ []) 0 < turns_left n (calls - 1) p next =
-    left_down n (calls - 1) p next less shorter in
-    omega (arith, rest)
+    omega (arith, left_down n (calls - 1) p next less shorter)
 
 -- some are left
 some_left : (n calls : ℕ) (p : List ℕ) (next : ℕ) → 0 < turns_left n calls p next
@@ -42,10 +31,5 @@ some_left n calls (c ∷ p) next = omega arith
 -- back to the place itself, past the continuation
 pub left_up : (n calls : ℕ) (p : List ℕ) (cpu next : ℕ)
     → turns_left n calls p (cpu + 1) < turns_left n calls (p ++ cpu ∷ []) next
-left_up n calls [] cpu next =
-    let some = some_left n (calls - 1) [] next in
-    omega (arith, some)
-left_up n calls (c ∷ p) cpu next =
-    let rest : turns_left n (calls - 1) p (cpu + 1) < turns_left n (calls - 1) (p ++ cpu ∷ []) next =
-    left_up n (calls - 1) p cpu next in
-    omega (arith, rest)
+left_up n calls [] cpu next = omega (arith, some_left n (calls - 1) [] next)
+left_up n calls (c ∷ p) cpu next = omega (arith, left_up n (calls - 1) p cpu next)

@@ -1,5 +1,5 @@
 -- The turns of a walk: what each does to what is known of the places.
-use Rattle.std.proofs.Common.{◌≡◌, ℕ, ◌+◌, ◌<◌, ◌≤◌, Bool, true, false, List, [], ◌∷◌, ◌++◌, length, option_to_list, reverse, Option, Some, None, refl, ap, sym, subst, ◌∙◌, arith}
+use Rattle.std.proofs.Common.{◌≡◌, ℕ, ◌+◌, ◌<◌, ◌≤◌, true, false, List, [], ◌∷◌, ◌++◌, length, option_to_list, reverse, Option, Some, None, ap, sym, ◌∙◌, arith}
 use Rattle.std.proofs.lemmas.List.{append-nil, length_push, map-append, reverse-append, same_from_push}
 use Rattle.hp_units.specs.declared.events.Event.{Event}
 use Rattle.hp_units.specs.declared.replies.Record.{Record}
@@ -10,7 +10,7 @@ use Rattle.hp_schedules.specs.Notes.{TallyValue}
 use Rattle.hp_schedules.specs.Parts.{IsOn, PartValue}
 use Rattle.hp_explore.specs.Paths.{IsBack, PathValue}
 use Rattle.hp_schedules.specs.Schedules.{Setting, next_call, plays, record_of_call, schedule_of}
-use Rattle.hp_states.specs.Walks.{IsOverBelow, IsPartWalkedBefore, IsPartWalkedThrough}
+use Rattle.hp_states.specs.Walks.{IsPartWalkedBefore, IsPartWalkedThrough}
 use Rattle.hp_states.specs.declared.frames.Level.{Level}
 use Rattle.hp_schedules.specs.declared.tally.Ending.{Ending}
 use Rattle.hp_states.proofs.OfPart.{comes_on}
@@ -77,29 +77,8 @@ pub walk_leads : (g : Setting) (part : PartValue) (tally : TallyValue) (news lat
     × AreBelow g part tally (length tally.trail) later
     (record frame { next = frame.next + 1; is_over = false } ∷ frames)
 unfolding record_of_call
-walk_leads g part tally news later frame frames event played asked room less is w = (
-  subst (λ (p : List ℕ). IsPartWalkedBefore g part p tally.ends) (sym there) w.0.walked,
-  subst (IsOn (length g.scripts) part) (sym there)
-      (comes_on (length g.scripts) part (schedule_of news) frame.next w.1.comes),
-  (
-    news,
-    record_of_call g news frame.next event,
-    event,
-    is,
-    refl,
-    refl,
-    asked,
-    less,
-    played,
-    room,
-    record { comes = w.1.comes; within = w.1.within; reached = w.1.reached },
-    w.2,
-    w.1.within,
-  ),
-)
-  where
-    there : schedule_of later ≡ schedule_of news ++ frame.next ∷ []
-    there = ap schedule_of is ∙ longer_schedule news (record_of_call g news frame.next event)
+walk_leads g part tally news later frame frames event played asked room less is w =
+    grind (arith, comes_on, longer_schedule)
 
 -- a place gets its frame
 pub walk_opens : (g : Setting) (part : PartValue) (tally : TallyValue) (news : List Record) (frame : Level)
@@ -111,16 +90,12 @@ pub walk_opens : (g : Setting) (part : PartValue) (tally : TallyValue) (news : L
     → AreWalked g part tally news (frame ∷ frames)
 walk_opens g part tally news frame frames fresh is walked below = (
   record {
-    walked =
-        subst (λ (n : ℕ). IsPartWalkedBefore g part (schedule_of news ++ n ∷ []) tally.ends) (sym zero)
-        (done_down g part (schedule_of news) tally.ends walked);
-    over =
-        subst (λ (b : Bool). IsOverBelow g news frame.next b) (sym (ap (λ (f : Level). f.is_over) fresh))
-        (λ cpu less. absurd (omega (arith, less, zero)));
+    walked = rw zero (done_down g part (schedule_of news) tally.ends walked);
+    over = rw fresh (λ cpu less. absurd (omega (arith, less, zero)));
     within = omega (arith, zero);
   },
   is,
-  subst (λ (n : ℕ). AreBelow g part tally n news frames) (sym (ap (λ (f : Level). f.start) fresh)) below,
+  rw fresh below,
 )
   where
     zero : frame.next ≡ 0
@@ -130,32 +105,22 @@ walk_opens g part tally news frame frames fresh is walked below = (
 
 pub frames_pushed : (old reserved new : List Level) (frame : Level) → reserved ≡ old
     → new ≡ reserved ++ frame ∷ [] → reverse new ≡ frame ∷ reverse old
-frames_pushed old reserved new frame same is =
-    ap reverse (is ∙ ap (λ (fs : List Level). fs ++ frame ∷ []) same) ∙ reverse-append old (frame ∷ [])
+frames_pushed old reserved new frame same is = rw (is, same, reverse-append old (frame ∷ []))
 
 pub frames_popped : (old new : List Level) (popped : Option Level) (frame : Level)
     → old ≡ new ++ option_to_list popped → popped ≡ Some frame → reverse old ≡ frame ∷ reverse new
-frames_popped old new popped frame is some =
-    ap reverse (is ∙ ap (λ (o : Option Level). new ++ option_to_list o) some)
-    ∙ reverse-append new (frame ∷ [])
+frames_popped old new popped frame is some = rw (is, some, reverse-append new (frame ∷ []))
 
 pub no_frames : (old new : List Level) (popped : Option Level) → old ≡ new ++ option_to_list popped
     → popped ≡ None → reverse old ≡ reverse new
-no_frames old new popped is none =
-    ap reverse (is ∙ (ap (λ (o : Option Level). new ++ option_to_list o) none ∙ append-nil new))
-
-pub none_left : (frames : List Level) → length frames ≡ 0 → reverse frames ≡ []
-none_left [] none = refl
-none_left (frame ∷ frames) none = absurd (omega arith)
+no_frames old new popped is none = grind (arith, append-nil)
 
 -- ---- the start
 
 -- no call was made
 pub walk_begun : (p : PathValue) (part : PartValue) (ends : List Ending) → p.news ≡ [] → ends ≡ []
     → IsPartWalkedBefore p.setting part (schedule_of p.news) ends
-walk_begun p part ends begun none =
-    subst (λ (h : List Record). IsPartWalkedBefore p.setting part (schedule_of h) ends) (sym begun)
-    (subst (IsPartWalkedBefore p.setting part []) (sym none) (done_begins p.setting part))
+walk_begun p part ends begun none = rw (begun, none) (done_begins p.setting part)
 
 pub on_begun : (p : PathValue) (part : PartValue) → p.news ≡ []
     → IsOn (length p.setting.scripts) part (schedule_of p.news)
@@ -179,45 +144,27 @@ came_from g news before r (Some cpu) p q is longer back =
 
 pub back_setting : (g : Setting) (news : List Record) (cpu : Option ℕ) (p q : PathValue)
     → p ≡ path_of g news → IsBack p cpu q → q.setting ≡ g
-back_setting g news None p q is back =
-    ap (λ (x : PathValue). x.setting) back.1 ∙ ap (λ (x : PathValue). x.setting) is
-back_setting g news (Some cpu) p q is back =
-    sym (ap (λ (x : PathValue). x.setting) back.2) ∙ ap (λ (x : PathValue). x.setting) is
+back_setting g news None p q is back = grind arith
+back_setting g news (Some cpu) p q is back = grind arith
 
 pub back_shorter : (g : Setting) (news : List Record) (cpu : Option ℕ) (p q : PathValue)
     → p ≡ path_of g news → IsBack p cpu q → length q.news ≤ length news
-back_shorter g news None p q is back =
-    omega (
-      arith,
-      ap (λ (x : PathValue). length x.news) back.1,
-      ap (λ (x : PathValue). length x.news) is,
-    )
-back_shorter g news (Some cpu) p q is back =
-    omega (
-      arith,
-      ap (λ (x : PathValue). length x.news) back.2,
-      ap (λ (x : PathValue). length x.news) is,
-      length_push q.news back.0,
-    )
+back_shorter g news None p q is back = grind arith
+back_shorter g news (Some cpu) p q is back = grind (arith, length_push)
 
 pub walk_back : (g : Setting) (part : PartValue) (most start : ℕ) (old new : TallyValue)
     (news : List Record) (frames : List Level) (cpu : Option ℕ) (p q : PathValue)
     → most ≤ start → GoOn start old new → AreBelow g part old most news frames
     → IsPartWalkedThrough g part (schedule_of news) new.ends
     → p ≡ path_of g news → IsBack p cpu q → AreWalked g part new q.news frames
-walk_back g part most start old new news [] cpu p q le on b walked is back =
-    subst (λ (h : List Record). IsPartWalkedThrough g part (schedule_of h) new.ends) b walked
+walk_back g part most start old new news [] cpu p q le on b walked is back = rw b at walked
 walk_back g part most start old new news (frame ∷ frames) cpu p q le on b walked is back =
-    subst (λ (h : List Record). AreWalked g part new h (frame ∷ frames))
-    (sym (came_from g news b.0 b.1 cpu p q is b.3 back)) (
+    rw (came_from g news b.0 b.1 cpu p q is b.3 back) (
       record {
         walked =
-            subst (λ (n : ℕ). IsPartWalkedBefore g part (schedule_of b.0 ++ n ∷ []) new.ends) (sym b.4)
-            (done_past g part (schedule_of b.0) b.0 b.1.cpu new.ends b.8 b.9
-            (subst (λ (s : List ℕ). IsPartWalkedThrough g part s new.ends)
-            (ap schedule_of b.3 ∙ longer_schedule b.0 b.1) walked));
-        over =
-            subst (λ (over : Bool). IsOverBelow g b.0 frame.next over) (sym b.5) (b.1.cpu, b.2, b.6);
+            rw b.4 (done_past g part (schedule_of b.0) b.0 b.1.cpu new.ends b.8 b.9
+            (rw (b.3, longer_schedule b.0 b.1) at walked));
+        over = rw b.5 (b.1.cpu, b.2, b.6);
         within = omega (arith, b.4, b.7);
       },
       frame_goes_on g part start old new b.0 frame (omega (arith, b.12, le)) on b.10,

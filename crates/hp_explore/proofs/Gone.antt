@@ -1,17 +1,16 @@
 -- An undo of steps that there are not is refused, and leaves the state as it is.
-use Rattle.std.proofs.Common.{◌≡◌, ℕ, ◌+◌, ◌<◌, Bool, true, cond, List, [], ◌∷◌, ◌++◌, length, Some, ap, arith, sym, subst, ◌∙◌}
-use Rattle.std.specs.Prelude.{◌||◌, nat_lt}
+use Rattle.std.proofs.Common.{◌≡◌, ℕ, ◌+◌, ◌<◌, true, List, [], ◌∷◌, ◌++◌, length, Some, ap, arith, sym, subst, ◌∙◌}
 use Rattle.std.proofs.lemmas.Bool.{lt-ltb}
 use Rattle.std.proofs.lemmas.List.{append_assoc, map-append}
-use Rattle.hp_units.specs.History.{count_above, effect_of, effect_reply, is_refused, net_of, reply_of, run, undo_reply, value_of}
+use Rattle.hp_units.specs.History.{effect_of, effect_reply, is_refused, net_of, reply_of, run, undo_reply, value_of}
 use Rattle.hp_units.specs.LayoutParts.{LayoutParts}
 use Rattle.hp_units.specs.Memory.{Memory}
 use Rattle.hp_units.specs.declared.events.Event.{Event}
 use Rattle.hp_units.specs.declared.events.Event.TheVariants.{UndoAfter}
 use Rattle.hp_units.specs.declared.replies.Record.{Record}
-use Rattle.hp_units.specs.declared.replies.Refusal.TheVariants.{Gone, NoCpu}
+use Rattle.hp_units.specs.declared.replies.Refusal.TheVariants.{Gone}
 use Rattle.hp_units.specs.declared.replies.Reply.{Reply}
-use Rattle.hp_units.specs.declared.replies.Reply.TheVariants.{Refused, Undone}
+use Rattle.hp_units.specs.declared.replies.Reply.TheVariants.{Refused}
 use Rattle.hp_laws.proofs.Net.{net-push}
 use Rattle.hp_laws.proofs.Replays.{net_bad}
 use Rattle.hp_machine.specs.Machine.{MachineValue}
@@ -27,24 +26,18 @@ use Rattle.hp_schedules.proofs.Plays.{plays_push}
 
 above_last : (before last : ℕ) (net : List Record) (kept : ℕ) → last < kept
     → undo_reply before last net kept ≡ Refused Gone
-above_last before last net kept above =
-    ap (λ (b : Bool). cond (b || nat_lt kept before) (Refused Gone) (Undone (count_above kept net)))
-    (lt-ltb last kept above)
+above_last before last net kept above = rw (lt-ltb last kept above)
 
 gone_effect : (l : LayoutParts) (before last : ℕ) (net : List Record) (s : Memory) (serial cpu kept : ℕ)
     → last < kept → cpu < l.cpus
     → effect_reply l before last net s serial cpu (UndoAfter kept) (effect_of (UndoAfter kept)) ≡ Refused Gone
-gone_effect l before last net s serial cpu kept above within =
-    ap (λ (b : Bool). cond b (undo_reply before last net kept) (Refused NoCpu)) (lt-ltb cpu l.cpus within)
-    ∙ above_last before last net kept above
+gone_effect l before last net s serial cpu kept above within = rw (lt-ltb, above_last)
 
 pub gone_reply : (g : Setting) (news : List Record) (cpu kept : ℕ)
     → g.before + length (g.start ++ news) < kept → cpu < g.layout.cpus
     → reply_of g.layout g.base g.before (g.start ++ news) cpu (UndoAfter kept) ≡ Refused Gone
 unfolding reply_of
-gone_reply g news cpu kept above within =
-    gone_effect g.layout g.before (g.before + length (g.start ++ news)) (net_of (g.start ++ news)) (value_of
-    g.layout g.base (g.start ++ news)) (g.before + length (g.start ++ news) + 1) cpu kept above within
+gone_reply g news cpu kept above within = grind (arith, gone_effect)
 
 -- ---- where it leads to
 
@@ -62,17 +55,12 @@ unfolding plays record_of_call
 refused_at g p r cpu event here asked is bad = record {
   layout = here.layout;
   played =
-      ap (λ (h : List Record). plays g (schedule_of h)) longer
-      ∙ (ap (plays g)
-      (map-append (λ (q : Record). q.cpu) p.records (record_of_call g p.records cpu event ∷ []))
-      ∙ (plays_push g (schedule_of p.records) p.records cpu event here.played asked ∙ ap Some (sym longer)));
+      rw (is, map-append (λ (q : Record). q.cpu) p.records (record_of_call g p.records cpu event ∷ []))
+      (plays_push g (schedule_of p.records) p.records cpu event here.played asked);
   state =
       here.state ∙ (stays g.layout g.base (g.start ++ p.records) r bad
       ∙ ap (value_of g.layout g.base) (append_assoc g.start p.records (r ∷ [])));
 }
-  where
-    longer : p.records ++ r ∷ [] ≡ p.records ++ record_of_call g p.records cpu event ∷ []
-    longer = ap (λ (q : Record). p.records ++ q ∷ []) is
 
 -- the record of the undo is the one that the schedule makes
 gone_record : (g : Setting) (news : List Record) (serial cpu : ℕ) (event : Event) (reply : Reply)
@@ -80,11 +68,7 @@ gone_record : (g : Setting) (news : List Record) (serial cpu : ℕ) (event : Eve
     → reply_of g.layout g.base g.before (g.start ++ news) cpu event ≡ reply
     → record { serial = serial; cpu = cpu; event = event; reply = reply } ≡ record_of_call g news cpu event
 unfolding record_of_call
-gone_record g news serial cpu event reply is said =
-    ap (λ (k : ℕ). told k reply) is ∙ ap (told (g.before + length (g.start ++ news) + 1)) (sym said)
-  where
-    told : ℕ → Reply → Record
-    told k answer = record { serial = k; cpu = cpu; event = event; reply = answer }
+gone_record g news serial cpu event reply is said = grind arith
 
 pub gone_leads : (start : MachineValue) (scripts : List (List Step)) (p n : StepsValue) (serial cpu : ℕ)
     (event copied : Event) (reply : Reply)
@@ -96,8 +80,7 @@ pub gone_leads : (start : MachineValue) (scripts : List (List Step)) (p n : Step
 gone_leads start scripts p n serial cpu event copied reply here asked next gone same refused is =
     let g = setting start scripts in
     let said : reply_of g.layout g.base g.before (g.start ++ p.records) cpu event ≡ Refused Gone =
-    ap (reply_of g.layout g.base g.before (g.start ++ p.records) cpu) gone.1
-    ∙ gone_reply g p.records cpu gone.0 (omega (arith, next.0, gone.2)) gone.3 in
+    rw (gone.1, gone_reply g p.records cpu gone.0 (omega (arith, next.0, gone.2)) gone.3) in
     let recorded =
     ap (told reply) same ∙ gone_record g p.records serial cpu event reply next.0 (said ∙ sym refused) in
     let at = refused_at g p (told reply copied) cpu event here asked recorded (ap is_refused refused) in (

@@ -1,5 +1,5 @@
 -- The changes of a schedule that grows.
-use Rattle.std.proofs.Common.{◌≡◌, ℕ, ◌+◌, ◌-◌, ◌<◌, ◌≤◌, List, [], ◌∷◌, ◌++◌, length, get_or, take, refl, ap, sym, subst, ◌∙◌, arith}
+use Rattle.std.proofs.Common.{◌≡◌, ℕ, ◌+◌, ◌-◌, ◌<◌, ◌≤◌, List, [], ◌∷◌, ◌++◌, length, get_or, take, refl, ap, sym, ◌∙◌, arith}
 use Rattle.std.proofs.lemmas.List.{append_assoc, take_all, take_more}
 use Rattle.hp_explore.specs.Changes.{change, changes, changes_after}
 
@@ -7,10 +7,7 @@ use Rattle.hp_explore.specs.Changes.{change, changes, changes_after}
 after_push : (b : ℕ) (p : List ℕ) (c d : ℕ)
     → changes_after b (p ++ c ∷ d ∷ []) ≡ changes_after b (p ++ c ∷ []) + change c d
 after_push b [] c d = omega arith
-after_push b (a ∷ p) c d =
-    let rest : changes_after a (p ++ c ∷ d ∷ []) ≡ changes_after a (p ++ c ∷ []) + change c d =
-    after_push a p c d in
-    omega (arith, rest)
+after_push b (a ∷ p) c d = omega (arith, after_push a p c d)
 
 changes_push : (p : List ℕ) (c d : ℕ)
     → changes (p ++ c ∷ d ∷ []) ≡ changes (p ++ c ∷ []) + change c d
@@ -25,11 +22,7 @@ changes_none (c ∷ s) cpu none = absurd (omega (arith, none))
 -- the calls up to a place, and the one there
 parted : (s : List ℕ) (i a : ℕ) → 1 ≤ i → i ≤ length s → a ≡ get_or s (i - 1) a
     → take i s ≡ take (i - 1) s ++ a ∷ []
-parted s i a some within is =
-    let next : i - 1 + 1 ≡ i = omega (arith, some) in
-    subst (λ (n : ℕ). take n s ≡ take (i - 1) s ++ a ∷ []) next
-    (take_more s (i - 1) a (omega (arith, some, within))
-    ∙ ap (λ (x : ℕ). take (i - 1) s ++ x ∷ []) (sym is))
+parted s i a some within is = grind (arith, take_more)
 
 -- one call more after some
 pub changes_last : (s : List ℕ) (last next count one : ℕ) → 1 ≤ length s → last ≡ get_or s (length s - 1) last
@@ -50,18 +43,14 @@ changes_more s i count one a b some less so_far a_is b_is is =
     let p : List ℕ = take (i - 1) s in
     let before : take i s ≡ p ++ a ∷ [] = parted s i a some (omega (arith, less)) a_is in
     let more : changes (take (i + 1) s) ≡ changes (p ++ a ∷ []) + change a b =
-    ap changes (take_more s i b less ∙ ap (λ (x : ℕ). take i s ++ x ∷ []) (sym b_is))
-    ∙ (ap (λ (t : List ℕ). changes (t ++ b ∷ [])) before
-    ∙ (ap changes (append_assoc p (a ∷ []) (b ∷ [])) ∙ changes_push p a b)) in
-    let first : count ≡ changes (p ++ a ∷ []) = so_far ∙ ap changes before in
+    rw (take_more s i b less, ← b_is, before, append_assoc p (a ∷ []) (b ∷ []), changes_push p a b) in
+    let first : count ≡ changes (p ++ a ∷ []) = rw (so_far, before) in
     omega (arith, more, first, is)
 
 -- a schedule has at least the changes of what it begins with
 after_longer : (b : ℕ) (p q : List ℕ) → changes_after b p ≤ changes_after b (p ++ q)
 after_longer b [] q = omega arith
-after_longer b (a ∷ p) q =
-    let rest : changes_after a p ≤ changes_after a (p ++ q) = after_longer a p q in
-    omega (arith, rest)
+after_longer b (a ∷ p) q = omega (arith, after_longer a p q)
 
 pub changes_longer : (p q : List ℕ) → changes p ≤ changes (p ++ q)
 changes_longer [] q = omega arith

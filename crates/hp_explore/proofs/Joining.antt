@@ -17,14 +17,14 @@ use Rattle.hp_explore.proofs.Adding.{WithAll, added_end}
 pub adds_push : (old ends : List Ending) (e : Ending) (mid new : List Ending) → AddsEnds old ends mid
     → AddsEnd mid e new → AddsEnds old (ends ++ e ∷ []) new
 adds_push old [] e mid new before last =
-    (new, subst (λ (xs : List Ending). AddsEnd xs e new) before last, refl)
+    (new, rw before at last, refl)
 adds_push old (f ∷ ends) e mid new before last =
     (before.0, before.1, adds_push before.0 ends e mid new before.2 last)
 
 pub lists_push : (old : List Ending) (lists : List (List Ending)) (ends mid new : List Ending)
     → AddsLists old lists mid → AddsEnds mid ends new → AddsLists old (lists ++ ends ∷ []) new
 lists_push old [] ends mid new before last =
-    (new, subst (λ (xs : List Ending). AddsEnds xs ends new) before last, refl)
+    (new, rw before at last, refl)
 lists_push old (more ∷ lists) ends mid new before last =
     (before.0, before.1, lists_push before.0 lists ends mid new before.2 last)
 
@@ -35,30 +35,19 @@ pub ends_sum : (old ends new : List Ending) → AddsEnds old ends new
 ends_sum old [] new adds =
     let same = ap (λ (ends : List Ending). sum_by (λ (e : Ending). e.count) ends) adds in omega arith
 ends_sum old (e ∷ ends) new adds =
-    omega (
-      arith,
-      ends_sum adds.0 ends new adds.2,
-      sum_added e old adds.0 adds.1,
-      sum_by-cons (λ (f : Ending). f.count) e ends,
-    )
+    omega (arith, ends_sum adds.0 ends new adds.2, sum_added e old adds.0 adds.1, sum_by-cons)
 
 pub lists_sum : (old : List Ending) (lists : List (List Ending)) (new : List Ending) → AddsLists old lists new
     → sum_by (λ (e : Ending). e.count) new ≡ sum_by (λ (e : Ending). e.count) old + counted_by lists
 lists_sum old [] new adds =
     let same = ap (λ (ends : List Ending). sum_by (λ (e : Ending). e.count) ends) adds in omega arith
 lists_sum old (ends ∷ lists) new adds =
-    omega (
-      arith,
-      lists_sum adds.0 lists new adds.2,
-      ends_sum old ends adds.0 adds.1,
-      sum_by-cons (λ (more : List Ending). sum_by (λ (e : Ending). e.count) more) ends lists,
-    )
+    omega (arith, lists_sum adds.0 lists new adds.2, ends_sum old ends adds.0 adds.1, sum_by-cons)
 
 -- no two ends are the same
 ends_apart : (old ends new : List Ending) → AddsEnds old ends new → AreApart old → AreApart new
-ends_apart old [] new adds ok = subst AreApart (sym adds) ok
-ends_apart old (e ∷ ends) new adds ok =
-    ends_apart adds.0 ends new adds.2 (apart_added e old adds.0 adds.1 ok)
+ends_apart old [] new adds ok = rw adds ok
+ends_apart old (e ∷ ends) new adds ok = ends_apart adds.0 ends new adds.2 (apart_added e old adds.0 adds.1 ok)
 
 pub lists_apart : (old : List Ending) (lists : List (List Ending)) (new : List Ending)
     → AddsLists old lists new → AreApart old → AreApart new
@@ -92,105 +81,93 @@ abbrev pub AreSpread : (F : List ℕ → OutcomeValue → Type 0) → Type 0
 AreSpread F =
     (s t : List ℕ) (x y : OutcomeValue) → (x ≡ y → ⊥) → F s x → F t y → IsBefore s t ⊎ IsBefore t s
 
-added_ends : (E F : List ℕ → OutcomeValue → Type 0) (D : OutcomeValue → Type 0) (old ends new : List Ending)
-    → AreBeside E F → AreSpread F → AreSaid F ends
-    → ((k : ℕ) (e : Ending) → slice_get ends k ≡ Some e → D e.outcome → ⊥)
-    → AreCounted (WithSome E F D) old → AddsEnds old ends new
-    → AreCounted (WithSome E F (λ x. D x ⊎ IsAmong ends x)) new
-added_ends E F D old [] new beside spread said others ok adds =
-    subst (AreCounted (WithSome E F (λ x. D x ⊎ IsAmong [] x))) (sym adds)
-    (same_counted (WithSome E F D) (WithSome E F (λ x. D x ⊎ IsAmong [] x)) old
-    (λ s x h. elim h [ inl e ↦ inl e | inr f ↦ inr (f.0, inl f.1) ])
-    (λ s x h. elim h [
-      | inl e ↦ inl e
-      | inr f ↦ elim f.1 [ inl d ↦ inr (f.0, d) | inr at ↦ absurd (let wrong = at.2 in cc) ]
-    ])
-    ok)
-added_ends E F D old (e ∷ ends) new beside spread said others ok adds =
-    same_counted (WithSome E F (λ x. (D x ⊎ (x ≡ e.outcome)) ⊎ IsAmong ends x))
-    (WithSome E F (λ x. D x ⊎ IsAmong (e ∷ ends) x)) new to from
-    (added_ends E F (λ x. D x ⊎ (x ≡ e.outcome)) adds.0 ends new beside spread rest others_on here adds.2)
-  where
-    besides : (s t : List ℕ) (y : OutcomeValue) → WithSome E F D s y → F t e.outcome
-        → IsBefore s t ⊎ IsBefore t s
-    besides s t y h f =
-        elim h [
-          | inl old_one ↦ beside s t y e.outcome old_one f
-          | inr new_one ↦
-              spread s t y e.outcome (λ same. others 0 e refl (subst D same new_one.1)) new_one.0 f
-        ]
-
-    here : AreCounted (WithSome E F (λ x. D x ⊎ (x ≡ e.outcome))) adds.0
-    here =
-        same_counted (WithAll (WithSome E F D) (λ s. F s e.outcome) e.outcome)
-        (WithSome E F (λ x. D x ⊎ (x ≡ e.outcome))) adds.0
-        (λ s x h. elim h [
-          | inl before ↦ elim before [ inl a ↦ inl a | inr f ↦ inr (f.0, inl f.1) ]
-          | inr now ↦ inr (subst (λ (y : OutcomeValue). F s y) (sym now.1) now.0, inr now.1)
-        ])
-        (λ s x h. elim h [
-          | inl a ↦ inl (inl a)
-          | inr f ↦ elim f.1 [
-            | inl d ↦ inl (inr (f.0, d))
-            | inr same ↦ inr (subst (λ (y : OutcomeValue). F s y) same f.0, same)
+module _ (E F : List ℕ → OutcomeValue → Type 0) (beside : AreBeside E F) (spread : AreSpread F) where
+  added_ends : (D : OutcomeValue → Type 0) (old ends new : List Ending) → AreSaid F ends
+      → ((k : ℕ) (e : Ending) → slice_get ends k ≡ Some e → D e.outcome → ⊥)
+      → AreCounted (WithSome E F D) old → AddsEnds old ends new
+      → AreCounted (WithSome E F (λ x. D x ⊎ IsAmong ends x)) new
+  added_ends D old [] new said others ok adds =
+      rw adds (same_counted (WithSome E F D) (WithSome E F (λ x. D x ⊎ IsAmong [] x)) old
+      (λ s x h. elim h [ inl e ↦ inl e | inr f ↦ inr (f.0, inl f.1) ])
+      (λ s x h. elim h [
+        | inl e ↦ inl e
+        | inr f ↦ elim f.1 [ inl d ↦ inr (f.0, d) | inr at ↦ absurd (let wrong = at.2 in cc) ]
+      ])
+      ok)
+  added_ends D old (e ∷ ends) new said others ok adds =
+      same_counted (WithSome E F (λ x. (D x ⊎ (x ≡ e.outcome)) ⊎ IsAmong ends x))
+      (WithSome E F (λ x. D x ⊎ IsAmong (e ∷ ends) x)) new
+      (λ s x h. elim h [
+        | inl a ↦ inl a
+        | inr f ↦ elim f.1 [
+          | inl first ↦ elim first [
+            | inl d ↦ inr (f.0, inl d)
+            | inr same ↦ inr (f.0, inr (0, e, refl, sym same))
           ]
-        ])
-        (added_end (WithSome E F D) (λ s. F s e.outcome) e old adds.0 besides (said.counts 0 e refl)
-        (said.firsts 0 e refl) ok adds.1)
-
-    rest : AreSaid F ends
-    rest = record {
-      counts = λ k f h. said.counts (suc k) f h;
-      firsts = λ k f h. said.firsts (suc k) f h;
-      apart = λ i j a b h k same. let next = said.apart (suc i) (suc j) a b h k same in omega arith;
-    }
-
-    others_on : (k : ℕ) (f : Ending) → slice_get ends k ≡ Some f → D f.outcome ⊎ (f.outcome ≡ e.outcome) → ⊥
-    others_on k f h before =
-        elim before [
-          | inl d ↦ others (suc k) f h d
-          | inr same ↦ absurd (let at = said.apart (suc k) 0 f e h refl same in omega arith)
+          | inr at ↦ inr (f.0, inr (suc at.0, at.1, at.2, at.3))
         ]
-
-    to : (s : List ℕ) (x : OutcomeValue) → WithSome E F (λ x. (D x ⊎ (x ≡ e.outcome)) ⊎ IsAmong ends x) s x
-        → WithSome E F (λ x. D x ⊎ IsAmong (e ∷ ends) x) s x
-    to s x h =
-        elim h [
-          | inl a ↦ inl a
-          | inr f ↦ elim f.1 [
-            | inl first ↦ elim first [
-              | inl d ↦ inr (f.0, inl d)
-              | inr same ↦ inr (f.0, inr (0, e, refl, sym same))
+      ])
+      (λ s x h. elim h [
+        | inl a ↦ inl a
+        | inr f ↦ elim f.1 [
+          | inl d ↦ inr (f.0, inl (inl d))
+          | inr at ↦ inr (f.0, by_place x at.0 at.1 at.2 at.3)
+        ]
+      ])
+      (added_ends (λ x. D x ⊎ (x ≡ e.outcome)) adds.0 ends new rest others_on here adds.2)
+    where
+      here : AreCounted (WithSome E F (λ x. D x ⊎ (x ≡ e.outcome))) adds.0
+      here =
+          same_counted (WithAll (WithSome E F D) (λ s. F s e.outcome) e.outcome)
+          (WithSome E F (λ x. D x ⊎ (x ≡ e.outcome))) adds.0
+          (λ s x h. elim h [
+            | inl before ↦ elim before [ inl a ↦ inl a | inr f ↦ inr (f.0, inl f.1) ]
+            | inr now ↦ inr (rw now.1 now.0, inr now.1)
+          ])
+          (λ s x h. elim h [
+            | inl a ↦ inl (inl a)
+            | inr f ↦ elim f.1 [
+              | inl d ↦ inl (inr (f.0, d))
+              | inr same ↦ inr (rw same at f.0, same)
             ]
-            | inr at ↦ inr (f.0, inr (suc at.0, at.1, at.2, at.3))
+          ])
+          (added_end (WithSome E F D) (λ s. F s e.outcome)
+          (λ s t y h f. elim h [
+            | inl old_one ↦ beside s t y e.outcome old_one f
+            | inr new_one ↦ spread s t y e.outcome (λ same. others 0 e refl (rw same at new_one.1)) new_one.0
+                f
+          ])
+          e old adds.0 (said.counts 0 e refl) (said.firsts 0 e refl) ok adds.1)
+
+      rest : AreSaid F ends
+      rest = record {
+        counts = λ k f h. said.counts (suc k) f h;
+        firsts = λ k f h. said.firsts (suc k) f h;
+        apart = λ i j a b h k same. let next = said.apart (suc i) (suc j) a b h k same in omega arith;
+      }
+
+      others_on : (k : ℕ) (f : Ending) → slice_get ends k ≡ Some f → D f.outcome ⊎ (f.outcome ≡ e.outcome)
+          → ⊥
+      others_on k f h before =
+          elim before [
+            | inl d ↦ others (suc k) f h d
+            | inr same ↦ absurd (let at = said.apart (suc k) 0 f e h refl same in omega arith)
           ]
-        ]
 
-    by_place : (x : OutcomeValue) (k : ℕ) (f : Ending) → slice_get (e ∷ ends) k ≡ Some f → f.outcome ≡ x
-        → (D x ⊎ (x ≡ e.outcome)) ⊎ IsAmong ends x
-    by_place x zero f h is =
-        inl (inr (sym is ∙ (let same : f ≡ e = cc in ap (λ (d : Ending). d.outcome) same)))
-    by_place x (suc k) f h is = inr (k, f, h, is)
+      by_place : (x : OutcomeValue) (k : ℕ) (f : Ending) → slice_get (e ∷ ends) k ≡ Some f → f.outcome ≡ x
+          → (D x ⊎ (x ≡ e.outcome)) ⊎ IsAmong ends x
+      by_place x zero f h is =
+          inl (inr (sym is ∙ (let same : f ≡ e = cc in ap (λ (d : Ending). d.outcome) same)))
+      by_place x (suc k) f h is = inr (k, f, h, is)
 
-    from : (s : List ℕ) (x : OutcomeValue) → WithSome E F (λ x. D x ⊎ IsAmong (e ∷ ends) x) s x
-        → WithSome E F (λ x. (D x ⊎ (x ≡ e.outcome)) ⊎ IsAmong ends x) s x
-    from s x h =
-        elim h [
-          | inl a ↦ inl a
-          | inr f ↦ elim f.1 [
-            | inl d ↦ inr (f.0, inl (inl d))
-            | inr at ↦ inr (f.0, by_place x at.0 at.1 at.2 at.3)
-          ]
-        ]
-
--- the schedules of both kinds
-pub joined : (E F : List ℕ → OutcomeValue → Type 0) (old ends new : List Ending) → AreBeside E F → AreSpread F
-    → AreCounted E old → AreCounted F ends → AddsEnds old ends new → AreCounted (λ s x. E s x ⊎ F s x) new
-joined E F old ends new beside spread first second adds =
-    same_counted (WithSome E F (λ x. ⊥ ⊎ IsAmong ends x)) (λ s x. E s x ⊎ F s x) new
-    (λ s x h. elim h [ inl e ↦ inl e | inr f ↦ inr f.0 ])
-    (λ s x h. elim h [ inl e ↦ inl e | inr f ↦ inr (f, inr (second.every s x f)) ])
-    (added_ends E F (λ x. ⊥) old ends new beside spread
-    (record { counts = second.counts; firsts = second.firsts; apart = second.apart }) (λ k e h none. none)
-    (same_counted E (WithSome E F (λ x. ⊥)) old (λ s x e. inl e)
-    (λ s x h. elim h [ inl e ↦ e | inr f ↦ absurd f.1 ]) first) adds)
+  -- the schedules of both kinds
+  pub joined : (old ends new : List Ending) → AreCounted E old → AreCounted F ends → AddsEnds old ends new
+      → AreCounted (λ s x. E s x ⊎ F s x) new
+  joined old ends new first second adds =
+      same_counted (WithSome E F (λ x. ⊥ ⊎ IsAmong ends x)) (λ s x. E s x ⊎ F s x) new
+      (λ s x h. elim h [ inl e ↦ inl e | inr f ↦ inr f.0 ])
+      (λ s x h. elim h [ inl e ↦ inl e | inr f ↦ inr (f, inr (second.every s x f)) ])
+      (added_ends (λ x. ⊥) old ends new
+      (record { counts = second.counts; firsts = second.firsts; apart = second.apart }) (λ k e h none. none)
+      (same_counted E (WithSome E F (λ x. ⊥)) old (λ s x e. inl e)
+      (λ s x h. elim h [ inl e ↦ e | inr f ↦ absurd f.1 ]) first) adds)

@@ -1,29 +1,29 @@
 -- How a search numbers operations: no two alike, later ones and those that scripts name by themselves.
-use Rattle.std.proofs.Common.{◌≡◌, ℕ, zero, suc, ◌+◌, ◌*◌, ◌<◌, ◌≤◌, Bool, true, false, cond, eqb, ltb, List, [], ◌∷◌, ◌++◌, filter, length, map, Option, Some, None, slice_get, refl, ap, sym, subst, ◌∙◌, arith}
+use Rattle.std.proofs.Common.{◌≡◌, ℕ, zero, suc, ◌+◌, ◌*◌, ◌<◌, ◌≤◌, Bool, true, false, cond, List, [], ◌∷◌, ◌++◌, length, map, Some, slice_get, refl, ap, sym, subst, ◌∙◌, arith}
 use Rattle.std.specs.Prelude.{fold}
 use Rattle.std.specs.List.{AllByRecursion, range_with_len}
 use Rattle.std.proofs.lemmas.Bool.{ltb-false, ltb-true}
 use Rattle.std.proofs.lemmas.List.{append-nil, append_assoc, length-append, length_push}
 use Rattle.std.proofs.lemmas.List.Sums.{fold_push}
-use Rattle.std.proofs.lemmas.Option.{none-some, same_Some}
-use Rattle.hp_units.specs.Marks.{is_opening, mark_of}
-use Rattle.hp_units.specs.Receipts.{receipt_of, receipts_of}
+use Rattle.std.proofs.lemmas.Option.{same_Some}
+use Rattle.hp_units.specs.Receipts.{receipts_of}
 use Rattle.hp_units.specs.declared.events.Event.{Event}
-use Rattle.hp_units.specs.declared.events.Event.TheVariants.{KernelAlloc, KernelFree, Map, Unmap, Write, Read, Drain, Online, Begin, DrainFor, Migrate, Commit, Cancel, UndoAfter, Probe, Remove, SetAuto}
+use Rattle.hp_units.specs.declared.events.Event.TheVariants.{DrainFor, Migrate, Commit, Cancel}
 use Rattle.hp_units.specs.declared.replies.Record.{Record}
 use Rattle.hp_renumbering.specs.Numberings.{number_of}
 use Rattle.hp_renumbering.specs.Renumbered.{renumbered_event}
 use Rattle.hp_renumbering.proofs.Numbered.{differ, fixed_number, later}
 use Rattle.hp_schedules.specs.Openings.{change_of}
-use Rattle.hp_schedules.specs.Schedules.{Setting, next_call, play_one, plays, record_of_call, schedule_of}
+use Rattle.hp_schedules.specs.Schedules.{Setting, plays, record_of_call, schedule_of}
 use Rattle.hp_schedules.specs.Scripts.{greater, greatest_in, greatest_named, later_operation, named_by, named_in, own_operation}
 use Rattle.hp_schedules.specs.declared.changes.Change.{Change}
-use Rattle.hp_schedules.specs.declared.changes.Change.TheVariants.{Stays, Begins, Works, Cancels, Ends}
+use Rattle.hp_schedules.specs.declared.changes.Change.TheVariants.{Ends}
 use Rattle.hp_schedules.specs.declared.scripts.Step.{Step}
-use Rattle.hp_schedules.specs.declared.scripts.Step.TheVariants.{Ask, Own, Carry}
-use Rattle.hp_schedules.proofs.Plays.{from_news, plays_one, stays_none}
+use Rattle.hp_schedules.specs.declared.scripts.Step.TheVariants.{Ask}
+use Rattle.hp_schedules.proofs.Plays.{from_news}
 use Rattle.hp_schedules.proofs.Steering.{AreNamedBy, IsNamedBy}
 use Rattle.hp_states.specs.Stops.{IsNumbering}
+use Rattle.hp_explore.proofs.Continued.{first_played}
 use Rattle.hp_explore.specs.LatestOps.{Ended, ended, ended_with, is_end, numbering, ops_after, ops_at}
 
 -- ---- what was recorded up to the last end
@@ -34,31 +34,21 @@ all_kept (r ∷ news) e = all_kept news (ended_with e r) ∙ append_assoc e.all 
 
 ended_push : (news : List Record) (r : Record)
     → (ended (news ++ r ∷ [])).kept ≡ cond (is_end (change_of r)) (news ++ r ∷ []) (ended news).kept
-ended_push news r =
-    ap (λ (e : Ended). e.kept) (fold_push ended_with (record { all = []; kept = [] }) news r)
-    ∙ ap (λ (all : List Record). cond (is_end (change_of r)) (all ++ r ∷ []) (ended news).kept)
-    (all_kept news (record { all = []; kept = [] }))
+ended_push news r = rw (fold_push, all_kept)
 
 not_end : (change : Change) → (change ≡ Ends → ⊥) → is_end change ≡ false
-not_end Stays other = refl
-not_end Begins other = refl
-not_end (Works op) other = refl
-not_end (Cancels op) other = refl
 not_end Ends other = absurd (other refl)
+not_end change other = refl
 
 pub ops_stay : (g : Setting) (news : List Record) (r : Record) → is_end (change_of r) ≡ false
     → ops_at g (news ++ r ∷ []) ≡ ops_at g news
 unfolding ops_at
-ops_stay g news r goes =
-    ap (ops_after g) (ended_push news r
-    ∙ ap (λ (b : Bool). cond b (news ++ r ∷ []) (ended news).kept) goes)
+ops_stay g news r goes = grind (arith, ended_push)
 
 pub ops_end : (g : Setting) (news : List Record) (r : Record) → is_end (change_of r) ≡ true
     → ops_at g (news ++ r ∷ []) ≡ ops_after g (news ++ r ∷ [])
 unfolding ops_at
-ops_end g news r goes =
-    ap (ops_after g) (ended_push news r
-    ∙ ap (λ (b : Bool). cond b (news ++ r ∷ []) (ended news).kept) goes)
+ops_end g news r goes = grind (arith, ended_push)
 
 pub ops_begin : (g : Setting) → ops_at g [] ≡ ops_after g []
 unfolding ops_at
@@ -105,20 +95,7 @@ op_below : (n cpu op : ℕ) (news : List Record) → op < n → AreBelow n news
     → fold later_operation op (receipts_of cpu news) < n
 op_below n cpu op [] less all = less
 op_below n cpu op (r ∷ news) less all =
-    by_owner (eqb r.cpu cpu) (λ first below. op_below n cpu first news below all.1)
-  where
-    by_mark : (b : Bool) → cond b r.serial op < n
-    by_mark true = all.0
-    by_mark false = less
-
-    by_owner : (own : Bool)
-        → ((first : ℕ) → first < n → fold later_operation first (receipts_of cpu news) < n)
-        → fold later_operation op
-        (map receipt_of (cond own (r ∷ filter (λ (x : Record). eqb x.cpu cpu) news)
-        (filter (λ (x : Record). eqb x.cpu cpu) news))) < n
-    by_owner true later =
-        later (later_operation op (receipt_of r)) (by_mark (is_opening (mark_of r.event)))
-    by_owner false later = later op less
+    grind (arith, op_below n cpu op news less all.1, op_below n cpu r.serial news all.0 all.1)
 
 ops_below : (n : ℕ) (news : List Record) (cpus : List ℕ) → 0 < n → AreBelow n news
     → AllByRecursion (λ op. op < n) (map (λ cpu. own_operation (receipts_of cpu news)) cpus)
@@ -130,44 +107,16 @@ serials_on : (g : Setting) (rest : List ℕ) (h end : List Record)
     → AreBelow (g.before + length (g.start ++ h) + 1) h → from_news g h rest ≡ Some end
     → AreBelow (g.before + length (g.start ++ end) + 1) end
 unfolding record_of_call
-serials_on g [] h end all is =
-    subst (λ (news : List Record). AreBelow (g.before + length (g.start ++ news) + 1) news)
-    (same_Some h end is) all
+serials_on g [] h end all is = rw (← same_Some h end is) all
 serials_on g (cpu ∷ rest) h end all is =
-    by_call (next_call g cpu h) refl
-    (λ e on. serials_on g rest (h ++ record_of_call g h cpu e ∷ []) end (longer e) on)
-  where
-    longer : (e : Event)
-        → AreBelow (g.before + length (g.start ++ (h ++ record_of_call g h cpu e ∷ [])) + 1)
-        (h ++ record_of_call g h cpu e ∷ [])
-    longer e =
-        let r = record_of_call g h cpu e in
-        let long : length (g.start ++ (h ++ r ∷ [])) ≡ length (g.start ++ h) + 1 =
-        omega (
-          arith,
-          length-append g.start (h ++ r ∷ []),
-          length-append g.start h,
-          length_push h r,
-        ) in
-        let last : g.before + length (g.start ++ h) + 1
-        < g.before + length (g.start ++ (h ++ r ∷ [])) + 1 = omega (arith, long) in
-        below_joined (g.before + length (g.start ++ (h ++ r ∷ [])) + 1) h (r ∷ [])
-        (below_raised (g.before + length (g.start ++ h) + 1)
-        (g.before + length (g.start ++ (h ++ r ∷ [])) + 1) h (omega (arith, long)) all)
-        (last, tt)
-
-    by_call : (o : Option Event) → next_call g cpu h ≡ o
-        → ((e : Event) → from_news g (h ++ record_of_call g h cpu e ∷ []) rest ≡ Some end
-        → AreBelow (g.before + length (g.start ++ end) + 1) end)
-        → AreBelow (g.before + length (g.start ++ end) + 1) end
-    by_call None asked later =
-        absurd (none-some end
-        (sym (ap (λ (o : Option (List Record)). fold (play_one g) o rest) (plays_one g h cpu None asked)
-        ∙ stays_none g rest) ∙ is))
-    by_call (Some e) asked later =
-        later e
-        (sym (ap (λ (o : Option (List Record)). fold (play_one g) o rest) (plays_one g h cpu (Some e) asked))
-        ∙ is)
+    let one = first_played g cpu rest h end is in
+    let r = record_of_call g h cpu one.0 in
+    let now = g.before + length (g.start ++ (h ++ r ∷ [])) + 1 in
+    let more : g.before + length (g.start ++ h) + 1 < now =
+    omega (arith, length-append g.start (h ++ r ∷ []), length-append g.start h, length_push h r) in
+    serials_on g rest (h ++ r ∷ []) end
+    (below_joined now h (r ∷ [])
+    (below_raised (g.before + length (g.start ++ h) + 1) now h (omega (arith, more)) all) (more, tt)) one.2
 
 -- a later operation is numbered by itself, wherever the search is
 pub later_number : (g : Setting) (news : List Record) (op : ℕ)
@@ -184,23 +133,14 @@ later_number g news op played past =
 -- ---- operations that scripts name
 
 greater_left : (n m : ℕ) → n ≤ greater n m
-greater_left n m = by_test (ltb n m) refl
-  where
-    by_test : (b : Bool) → ltb n m ≡ b → n ≤ cond b m n
-    by_test true is = omega (arith, ltb-true n m is)
-    by_test false is = omega arith
+greater_left n m = grind (arith, ltb-true, ltb-false)
 
 greater_right : (n m : ℕ) → m ≤ greater n m
-greater_right n m = by_test (ltb n m) refl
-  where
-    by_test : (b : Bool) → ltb n m ≡ b → m ≤ cond b m n
-    by_test true is = omega arith
-    by_test false is = omega (arith, ltb-false n m is)
+greater_right n m = grind (arith, ltb-true, ltb-false)
 
 grows : (least : ℕ) (lines : List Step) → least ≤ greatest_in least lines
 grows least [] = omega arith
-grows least (line ∷ lines) =
-    omega (arith, greater_left least (named_in line), grows (greater least (named_in line)) lines)
+grows least (line ∷ lines) = omega (arith, greater_left, grows (greater least (named_in line)) lines)
 
 scripts_grow : (least : ℕ) (scripts : List (List Step)) → least ≤ fold greatest_in least scripts
 scripts_grow least [] = omega arith
@@ -209,31 +149,18 @@ scripts_grow least (script ∷ scripts) =
 
 event_named : (p q : ℕ → ℕ) (e : Event) → p (named_by e) ≡ q (named_by e)
     → renumbered_event p e ≡ renumbered_event q e
-event_named p q (KernelAlloc order) same = refl
-event_named p q (KernelFree frame) same = refl
-event_named p q (Map owner page) same = refl
-event_named p q (Unmap owner page) same = refl
-event_named p q (Write owner page index value) same = refl
-event_named p q (Read owner page index) same = refl
-event_named p q (Drain drained) same = refl
-event_named p q (Online block zone) same = refl
-event_named p q (Begin plan) same = refl
 event_named p q (DrainFor op drained) same = ap (λ (n : ℕ). DrainFor n drained) same
 event_named p q (Migrate op) same = ap (λ (n : ℕ). Migrate n) same
 event_named p q (Commit op) same = ap (λ (n : ℕ). Commit n) same
 event_named p q (Cancel op) same = ap (λ (n : ℕ). Cancel n) same
-event_named p q (UndoAfter serial) same = refl
-event_named p q (Probe address) same = refl
-event_named p q (Remove block) same = refl
-event_named p q (SetAuto auto) same = refl
+event_named p q event same = refl
 
 line_named : (fixed : ℕ) (a b : List ℕ) (line : Step) → named_in line ≤ fixed
     → IsNamedBy (number_of fixed a) (number_of fixed b) line
 line_named fixed a b (Ask event) up =
     event_named (number_of fixed a) (number_of fixed b) event
     (fixed_number fixed a (named_by event) up ∙ sym (fixed_number fixed b (named_by event) up))
-line_named fixed a b (Own work) up = tt
-line_named fixed a b (Carry plan turns) up = tt
+line_named fixed a b line up = tt
 
 lines_named : (fixed : ℕ) (a b : List ℕ) (lines : List Step) (least : ℕ) → greatest_in least lines ≤ fixed
     → AreNamedBy (number_of fixed a) (number_of fixed b) lines

@@ -5,12 +5,11 @@ use Rattle.std.proofs.Math.Seq.{drop-append_seam, take-append_seam}
 use Rattle.std.proofs.lemmas.List.{append-nil, append_assoc, length-append, length-drop, take_all}
 use Rattle.std.proofs.lemmas.List.FromFn.{length-map-range_with_len}
 use Rattle.std.proofs.lemmas.List.Sums.{fold_push}
-use Rattle.hp_units.specs.Receipts.{receipts_of}
 use Rattle.hp_units.specs.declared.replies.Record.{Record}
 use Rattle.hp_renumbering.specs.Numberings.{number_of}
 use Rattle.hp_schedules.specs.Schedules.{Setting}
-use Rattle.hp_schedules.specs.Scripts.{greatest_named, own_operation}
-use Rattle.hp_explore.specs.LatestOps.{Along, AreLatestAt, along, along_with, ended, last_of, latest_here, numbering, ops_at}
+use Rattle.hp_schedules.specs.Scripts.{greatest_named}
+use Rattle.hp_explore.specs.LatestOps.{Along, AreLatestAt, along, along_with, last_of, latest_here, numbering, ops_at}
 use Rattle.hp_explore.specs.declared.latest_ops.LatestOps.{LatestOps}
 
 -- ---- the operations at the places of a path
@@ -35,9 +34,7 @@ along_here g news = along_at g news (begun g) refl ∙ ap (ops_at g) (along_all 
 -- one per processor
 ops_many : (g : Setting) (news : List Record) → length (ops_at g news) ≡ length g.scripts
 unfolding ops_at
-ops_many g news =
-    length-map-range_with_len (λ (cpu : ℕ). own_operation (receipts_of cpu (ended news).kept)) 0
-    (length g.scripts)
+ops_many g news = grind (arith, length-map-range_with_len)
 
 here_many : (g : Setting) (news : List Record) → length (along g news).here ≡ length g.scripts
 here_many g news = ap length (along_here g news) ∙ ops_many g news
@@ -51,34 +48,22 @@ last_is count earlier here many =
 -- as a range of the list
 pub last_range : (count first size : ℕ) (numbers : List ℕ) → size ≡ length numbers → first ≡ size - count
     → slice_range numbers first size ≡ last_of count numbers
-last_range count first size numbers many is =
-    ap (λ (n : ℕ). slice_range numbers n size) (is ∙ ap (λ (n : ℕ). n - count) many)
-    ∙ (ap (slice_range numbers (length numbers - count)) many
-    ∙ take_all (length numbers - (length numbers - count)) (drop (length numbers - count) numbers)
-    (omega (arith, length-drop (length numbers - count) numbers)))
+last_range count first size numbers many is = grind (arith, take_all, length-drop)
 
 pub here_at : (g : Setting) (news : List Record) (l : LatestOps) → AreLatestAt g news l
     → latest_here l ≡ ops_at g news
-here_at g news l are =
-    ap (last_of l.processors) are.1
-    ∙ (last_is l.processors (along g news).earlier (along g news).here (here_many g news ∙ sym are.0)
-    ∙ along_here g news)
+here_at g news l are = grind (arith, last_is, here_many, along_here)
 
 -- after one call more
 along_more : (g : Setting) (news : List Record) (r : Record)
     → (along g (news ++ r ∷ [])).earlier ++ (along g (news ++ r ∷ [])).here
     ≡ ((along g news).earlier ++ (along g news).here) ++ ops_at g (news ++ r ∷ [])
-along_more g news r =
-    ap (λ (a : Along). a.earlier ++ a.here) (fold_push (along_with g) (begun g) news r)
-    ∙ ap (λ (all : List Record). ((along g news).earlier ++ (along g news).here) ++ ops_at g (all ++ r ∷ []))
-    (along_all g news (begun g))
+along_more g news r = rw (fold_push (along_with g) (begun g) news r, along_all g news (begun g))
 
 pub latest_more : (g : Setting) (news : List Record) (r : Record) (old : LatestOps) (new ops : List ℕ)
     → new ≡ old.ops.items ++ ops → ops ≡ ops_at g (news ++ r ∷ []) → AreLatestAt g news old
     → new ≡ (along g (news ++ r ∷ [])).earlier ++ (along g (news ++ r ∷ [])).here
-latest_more g news r old new ops is at are =
-    is ∙ (ap (λ (last : List ℕ). old.ops.items ++ last) at
-    ∙ (ap (λ (earlier : List ℕ). earlier ++ ops_at g (news ++ r ∷ [])) are.1 ∙ sym (along_more g news r)))
+latest_more g news r old new ops is at are = rw (is, at, are.1, ← along_more g news r)
 
 -- and back over it
 pub latest_less : (g : Setting) (news : List Record) (r : Record) (l : LatestOps)
@@ -102,6 +87,4 @@ latest_less g news r l are =
 pub numbers_here : (g : Setting) (news : List Record) (fixed : ℕ) (ops given : List ℕ)
     → fixed ≡ greatest_named g.scripts → given ≡ ops → ops ≡ ops_at g news
     → number_of fixed given ≡ numbering g news
-numbers_here g news fixed ops given greatest told at =
-    ap (λ (n : ℕ). number_of n given) greatest
-    ∙ ap (number_of (greatest_named g.scripts)) (told ∙ at)
+numbers_here g news fixed ops given greatest told at = rw (greatest, told, at)

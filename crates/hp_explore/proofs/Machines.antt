@@ -1,19 +1,16 @@
 -- A machine that is a call further than another, and the one where the scripts begin.
-use Rattle.std.proofs.Common.{◌≡◌, ℕ, ◌+◌, ◌≤◌, Bool, true, false, List, [], ◌∷◌, ◌++◌, length, drop, Some, refl, ap, sym, subst, ◌∙◌, arith}
-use Rattle.std.specs.Prelude.{◌||◌, Result, Ok, Err, IsTrue, nat_le}
+use Rattle.std.proofs.Common.{◌≡◌, ℕ, ◌+◌, ◌≤◌, true, false, List, [], ◌∷◌, ◌++◌, length, drop, Some, refl, ap, sym, subst, ◌∙◌, arith}
+use Rattle.std.specs.Prelude.{Result, Ok, Err, IsTrue}
 use Rattle.std.proofs.lemmas.List.{append-nil, append_assoc, length-append, length_push, map-append}
 use Rattle.std.proofs.Math.Seq.{drop-length}
-use Rattle.hp_units.specs.LayoutParts.{LayoutParts}
-use Rattle.hp_units.specs.Memory.{Memory}
-use Rattle.hp_units.specs.History.{reply_of, value_of}
+use Rattle.hp_units.specs.History.{value_of}
 use Rattle.hp_units.specs.declared.events.Event.{Event}
 use Rattle.hp_units.specs.declared.replies.CallFault.{CallFault}
 use Rattle.hp_units.specs.declared.replies.CallFault.TheVariants.{HistoryFull as CallFull, OutOfMemory as CallMemory}
 use Rattle.hp_units.specs.declared.replies.Receipt.{Receipt}
 use Rattle.hp_units.specs.declared.replies.Record.{Record}
-use Rattle.hp_machine.specs.Machine.{IsCalled, IsHistory, MachineValue, is_full, record_of}
+use Rattle.hp_machine.specs.Machine.{IsCalled, MachineValue, is_full, record_of}
 use Rattle.hp_machine.proofs.Machines.{room}
-use Rattle.hp_steps.specs.Steps.{StepsValue}
 use Rattle.hp_explore.specs.declared.exploring.ExploreFault.TheVariants.{HistoryFull}
 use Rattle.hp_schedules.specs.declared.scripts.Step.{Step}
 use Rattle.hp_explore.specs.Faults.{IsCause, fault_of}
@@ -21,8 +18,7 @@ use Rattle.hp_states.specs.Rooms.{is_full_after}
 use Rattle.hp_schedules.specs.Schedules.{Setting, next_call, plays, record_of_call, schedule_of}
 use Rattle.hp_explore.specs.Settings.{setting}
 use Rattle.hp_explore.specs.Walks.{FillsAt, IsFurther, IsReached, news_in, place_of}
-use Rattle.hp_states.specs.Walks.{IsAt}
-use Rattle.hp_schedules.proofs.Plays.{plays_push, recorded}
+use Rattle.hp_schedules.proofs.Plays.{plays_push}
 
 -- what stands after the start
 after_start : (start news : List Record) → drop (length start) (start ++ news) ≡ news
@@ -33,45 +29,24 @@ after_start (r ∷ start) news = after_start start news
 same_record : (g : Setting) (m n : MachineValue) (cpu : ℕ) (event : Event) (a : Receipt) → IsReached g m
     → IsCalled m cpu event a n → record_of cpu a ≡ record_of_call g (news_in g m) cpu event
 unfolding record_of_call
-same_record g m n cpu event a here call =
-    ap (λ (k : ℕ). recorded k cpu a.event a.reply)
-    (omega (arith, call.serial, here.before, ap length here.history))
-    ∙ (ap (λ (e : Event). recorded (g.before + length (g.start ++ news_in g m) + 1) cpu e a.reply) call.asked
-    ∙ ap (recorded (g.before + length (g.start ++ news_in g m) + 1) cpu event) (call.reply ∙ reply))
-  where
-    reply : reply_of m.layout m.base m.before m.history cpu event
-        ≡ reply_of g.layout g.base g.before (g.start ++ news_in g m) cpu event
-    reply =
-        ap (λ (l : LayoutParts). reply_of l m.base m.before m.history cpu event) here.layout
-        ∙ (ap (λ (s : Memory). reply_of g.layout s m.before m.history cpu event) here.base
-        ∙ (ap (λ (k : ℕ). reply_of g.layout g.base k m.history cpu event) here.before
-        ∙ ap (λ (h : List Record). reply_of g.layout g.base g.before h cpu event) here.history))
+same_record g m n cpu event a here call = grind arith
 
 -- its history and its new records after the call
 call_longer : (g : Setting) (m n : MachineValue) (cpu : ℕ) (event : Event) (a : Receipt) → IsReached g m
     → IsCalled m cpu event a n → n.history ≡ g.start ++ (news_in g m ++ record_of cpu a ∷ [])
-call_longer g m n cpu event a here call =
-    call.history ∙ (ap (λ (h : List Record). h ++ record_of cpu a ∷ []) here.history
-    ∙ append_assoc g.start (news_in g m) (record_of cpu a ∷ []))
+call_longer g m n cpu event a here call = cc (append_assoc g.start (news_in g m) (record_of cpu a ∷ []))
 
 call_news : (g : Setting) (m n : MachineValue) (cpu : ℕ) (event : Event) (a : Receipt) → IsReached g m
     → IsCalled m cpu event a n → news_in g n ≡ news_in g m ++ record_of cpu a ∷ []
 call_news g m n cpu event a here call =
-    ap (drop (length g.start)) (call_longer g m n cpu event a here call)
-    ∙ after_start g.start (news_in g m ++ record_of cpu a ∷ [])
+    rw (call_longer g m n cpu event a here call, after_start g.start (news_in g m ++ record_of cpu a ∷ []))
 
 -- with the latest record
 pub call_latest : (g : Setting) (m n : MachineValue) (cpu : ℕ) (event : Event) (a : Receipt) (latest : Record)
     → IsReached g m → IsCalled m cpu event a n
     → ((before : List Record) (r : Record) → n.history ≡ before ++ r ∷ [] → latest ≡ r)
     → (latest.cpu ≡ cpu) × (news_in g n ≡ news_in g m ++ latest ∷ [])
-call_latest g m n cpu event a latest here call last = (
-  ap (λ (r : Record). r.cpu) is,
-  call_news g m n cpu event a here call ∙ ap (λ (r : Record). news_in g m ++ r ∷ []) (sym is),
-)
-  where
-    is : latest ≡ record_of cpu a
-    is = last m.history (record_of cpu a) call.history
+call_latest g m n cpu event a latest here call last = grind (arith, call_news)
 
 -- the machine after the call
 pub further : (g : Setting) (m n : MachineValue) (cpu : ℕ) (event : Event) (a : Receipt) → IsReached g m
@@ -108,11 +83,7 @@ further g m n cpu event a here asked free call = record {
 -- a call that was answered found room
 pub had_room : {A E : Type 0} (m : MachineValue) (result : Result A E) (fault : E) (a : A)
     → result ≡ Ok a → (IsTrue (is_full m) → result ≡ Err fault) → is_full m ≡ false
-had_room m result fault a ok full = by_test (is_full m) refl
-  where
-    by_test : (b : Bool) → is_full m ≡ b → is_full m ≡ false
-    by_test true e = absurd (let h : Ok a ≡ Err fault = sym ok ∙ full (rw e refl) in cc)
-    by_test false e = e
+had_room m result fault a ok full = grind arith
 
 -- the machine where the scripts begin
 pub reached_start : (m : MachineValue) (scripts : List (List Step)) → IsReached (setting m scripts) m
@@ -136,25 +107,7 @@ no_fewer g m here = omega (arith, ap length here.history, length-append g.start 
 pub state_here : (g : Setting) (m : MachineValue) → IsReached g m
     → m.state ≡ value_of m.layout m.base m.history
     → m.state ≡ value_of g.layout g.base (g.start ++ news_in g m)
-state_here g m here state =
-    state
-    ∙ (ap (λ (l : LayoutParts). value_of l m.base m.history) here.layout
-    ∙ (ap (λ (s : Memory). value_of g.layout s m.history) here.base
-    ∙ ap (λ (h : List Record). value_of g.layout g.base h) here.history))
-
--- and steps from it are there
-pub at_machine : (g : Setting) (m : MachineValue) (steps : StepsValue) → IsReached g m → IsHistory m
-    → steps ≡ record { layout = m.layout; state = m.state; deltas = []; records = news_in g m } → IsAt g steps
-at_machine g m steps here kept is =
-    subst (IsAt g) (sym is) (record {
-      layout = here.layout;
-      played = here.played;
-      state =
-          kept.state
-          ∙ (ap (λ (l : LayoutParts). value_of l m.base m.history) here.layout
-          ∙ (ap (λ (s : Memory). value_of g.layout s m.history) here.base
-          ∙ ap (λ (h : List Record). value_of g.layout g.base h) here.history));
-    })
+state_here g m here state = cc
 
 -- the place where they begin
 pub start_place : (m : MachineValue) (scripts : List (List Step)) → place_of (setting m scripts) m ≡ []
@@ -162,13 +115,7 @@ start_place m scripts = ap schedule_of (drop-length m.history)
 
 -- whether its history is full is so by the new records alone
 full_as : (g : Setting) (m : MachineValue) → IsReached g m → is_full m ≡ is_full_after g (news_in g m)
-full_as g m here =
-    ap (λ (l : LayoutParts). nat_le l.history (length m.history) || spent m.before m.history) here.layout
-    ∙ (ap (λ (k : ℕ). nat_le g.layout.history (length m.history) || spent k m.history) here.before
-    ∙ ap (λ (h : List Record). nat_le g.layout.history (length h) || spent g.before h) here.history)
-  where
-    spent : ℕ → List Record → Bool
-    spent before history = nat_le 18446744073709551615 (before + length history)
+full_as g m here = cc
 
 -- so its next call has no room there
 pub fills_here : (g : Setting) (m : MachineValue) (cpu : ℕ) (event : Event) → IsReached g m

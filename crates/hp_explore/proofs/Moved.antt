@@ -8,7 +8,6 @@ use Rattle.std.proofs.lemmas.Option.{slice_get-get_or}
 use Rattle.hp_schedules.specs.declared.tally.Ending.{Ending}
 use Rattle.hp_schedules.specs.Ends.{AreCounted}
 use Rattle.hp_schedules.specs.Outcomes.{OutcomeValue}
-use Rattle.hp_schedules.specs.Orders.{HasCount}
 use Rattle.hp_schedules.proofs.Counts.{get_set_cases}
 use Rattle.hp_explore.specs.Sums.{AreApart}
 
@@ -19,23 +18,7 @@ IsTurned i j from to =
     ⊎ (((to ≡ j → ⊥) × (to ≡ i) × (from ≡ j)) ⊎ ((to ≡ j → ⊥) × (to ≡ i → ⊥) × (from ≡ to)))
 
 one_place : (i j from a b : ℕ) → IsTurned i j from a → IsTurned i j from b → a ≡ b
-one_place i j from a b h k =
-    elim h [
-      | inl x ↦ elim k [
-        | inl y ↦ omega arith
-        | inr rest ↦ elim rest [ inl y ↦ absurd (y.0 (omega arith)) | inr y ↦ absurd (y.1 (omega arith)) ]
-      ]
-      | inr other ↦ elim other [
-        | inl x ↦ elim k [
-          | inl y ↦ absurd (x.0 (omega arith))
-          | inr rest ↦ elim rest [ inl y ↦ omega arith | inr y ↦ absurd (y.0 (omega arith)) ]
-        ]
-        | inr x ↦ elim k [
-          | inl y ↦ absurd (x.1 (omega arith))
-          | inr rest ↦ elim rest [ inl y ↦ absurd (x.0 (omega arith)) | inr y ↦ omega arith ]
-        ]
-      ]
-    ]
+one_place i j from a b h k = omega arith
 
 at_swapped : {A : Type 0} (xs : List A) (i j : ℕ) → i < length xs → j < length xs → (k : ℕ) (x : A)
     → slice_get (swap xs i j) k ≡ Some x → (from : ℕ) × (slice_get xs from ≡ Some x) × IsTurned i j from k
@@ -86,7 +69,5 @@ counted_moved E old new moved ok = record {
       let now = stood_there new old (IsPermutation-sym old new moved) at.0 at.1 at.2 in
       (now.0, at.1, now.1, at.3);
   apart = apart_moved old new moved ok.apart;
-  total =
-      subst (HasCount (λ s. (x : OutcomeValue) × E s x))
-      (sym (sum_by-IsPermutation (λ (e : Ending). e.count) old new moved)) ok.total;
+  total = rw (sum_by-IsPermutation (λ (e : Ending). e.count) old new moved) ok.total;
 }

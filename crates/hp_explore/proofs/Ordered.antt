@@ -1,5 +1,5 @@
 -- The order of two schedules that are the same so far.
-use Rattle.std.proofs.Common.{◌≡◌, ℕ, ◌+◌, ◌<◌, ◌≤◌, List, [], ◌∷◌, length, get_or, drop, refl, ap, sym, ◌∙◌, add-one, drop-cons}
+use Rattle.std.proofs.Common.{◌≡◌, ℕ, ◌+◌, ◌<◌, ◌≤◌, List, ◌∷◌, length, get_or, drop, refl, add-one, drop-cons}
 use Rattle.std.specs.Cmp.Lexicographic.{slice_cmp}
 use Rattle.std.specs.Ordering.{nat_cmp, ordering_then}
 use Rattle.std.specs.declared.cmp.Ordering.TheVariants.{Less, Greater}
@@ -14,21 +14,13 @@ pub order_at : (xs ys : List ℕ) (i : ℕ) → i < length xs → i < length ys
     → slice_cmp nat_cmp (drop i xs) (drop i ys)
     ≡ ordering_then (nat_cmp (get_or xs i 0) (get_or ys i 0))
     (slice_cmp nat_cmp (drop (i + 1) xs) (drop (i + 1) ys))
-order_at xs ys i less more =
-    ap (λ (zs : List ℕ). slice_cmp nat_cmp zs (drop i ys)) (rest_at xs i less)
-    ∙ ap (λ (zs : List ℕ). slice_cmp nat_cmp (get_or xs i 0 ∷ drop (i + 1) xs) zs) (rest_at ys i more)
+order_at xs ys i less more = rw (rest_at xs i less, rest_at ys i more)
 
 -- where one goes on from the other it stands after it
 pub longer : (xs ys : List ℕ) (i : ℕ) → i < length xs → length ys ≤ i
     → slice_cmp nat_cmp xs ys ≡ slice_cmp nat_cmp (drop i xs) (drop i ys) → Greater ≡ slice_cmp nat_cmp xs ys
-longer xs ys i less past so_far =
-    sym (so_far
-    ∙ (ap (λ (zs : List ℕ). slice_cmp nat_cmp zs (drop i ys)) (rest_at xs i less)
-    ∙ ap (λ (zs : List ℕ). slice_cmp nat_cmp (get_or xs i 0 ∷ drop (i + 1) xs) zs) (drop_all i ys past)))
+longer xs ys i less past so_far = rw (so_far, rest_at xs i less, drop_all i ys past)
 
 pub shorter : (xs ys : List ℕ) (i : ℕ) → length xs ≤ i → i < length ys
     → slice_cmp nat_cmp xs ys ≡ slice_cmp nat_cmp (drop i xs) (drop i ys) → Less ≡ slice_cmp nat_cmp xs ys
-shorter xs ys i past less so_far =
-    sym (so_far
-    ∙ (ap (λ (zs : List ℕ). slice_cmp nat_cmp zs (drop i ys)) (drop_all i xs past)
-    ∙ ap (λ (zs : List ℕ). slice_cmp nat_cmp [] zs) (rest_at ys i less)))
+shorter xs ys i past less so_far = rw (so_far, drop_all i xs past, rest_at ys i less)

@@ -71,11 +71,4 @@ sides (d ∷ s) (c ∷ t) =
 -- the earlier of two of which one stands before the other
 pub earlier_of : (s t : List ℕ) → IsBefore s t ⊎ IsBefore t s
     → ((earlier s t ≡ s) × IsBefore s t) ⊎ ((earlier s t ≡ t) × IsBefore t s)
-earlier_of s t h =
-    elim h [ inl before ↦ inl (taken before, before) | inr after ↦ inr (left after, after) ]
-  where
-    taken : IsBefore s t → earlier s t ≡ s
-    taken before = rw (before_less s t before) refl
-
-    left : IsBefore t s → earlier s t ≡ t
-    left after = rw (after_not_less s t after) refl
+earlier_of s t h = grind (arith, before_less, after_not_less)

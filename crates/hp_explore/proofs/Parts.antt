@@ -1,5 +1,5 @@
 -- The ends of all parts together are those of all complete schedules.
-use Rattle.std.proofs.Common.{◌≡◌, ℕ, suc, ◌+◌, ◌*◌, ◌%◌, ◌<◌, ◌≤◌, List, [], ◌∷◌, length, false, take, Some, slice_get, get_or, refl, ap, sym, subst, arith, inl, inr}
+use Rattle.std.proofs.Common.{◌≡◌, ℕ, suc, ◌+◌, ◌*◌, ◌%◌, ◌<◌, ◌≤◌, List, [], ◌∷◌, length, take, Some, slice_get, refl, ap, arith, inl, inr}
 use Rattle.std.specs.Prelude.{◌⊎◌, fold}
 use Rattle.std.specs.Cmp.Lexicographic.{slice_cmp, nat_list_cmp_total}
 use Rattle.std.specs.Ordering.{is_lt, nat_cmp}
@@ -49,46 +49,32 @@ pub part_added : (g : Setting) (of calls k : ℕ) (old ends new : List Ending)
     → AreCounted (EndsInPart g (record { index = k; of = of; calls = calls })) ends → AddsEnds old ends new
     → AreCounted (EndsBelow g of calls (k + 1)) new
 part_added g of calls k old ends new first second adds =
-    same_counted (λ s x. EndsBelow g of calls k s x ⊎ In s x) (EndsBelow g of calls (k + 1)) new to from
-    (joined (EndsBelow g of calls k) In old ends new beside spread first second adds)
+    same_counted (λ s x. EndsBelow g of calls k s x ⊎ In s x) (EndsBelow g of calls (k + 1)) new
+    (λ s x h. elim h [
+      | inl below ↦ (below.0, (let less = below.1 in omega arith))
+      | inr here ↦ (here.0, (let is = here.1 in omega arith))
+    ])
+    (λ s x h. elim (cases_lt (part_number (length g.scripts) of (take calls s)) k) [
+      | inl less ↦ inl (h.0, less)
+      | inr more ↦ inr (h.0, (let less = h.1 in omega arith))
+    ])
+    (joined (EndsBelow g of calls k) In
+    (λ s t x y below here. elim (compared g s t x y below.0 here.0) [
+      | inl same ↦
+          absurd (let less = below.1 in
+          let is = here.1 in
+          let one = ap (λ (u : List ℕ). part_number (length g.scripts) of (take calls u)) same.0 in omega
+          arith)
+      | inr other ↦ other
+    ])
+    (λ s t x y differs a b. elim (compared g s t x y a.0 b.0) [
+      | inl same ↦ absurd (differs same.1)
+      | inr other ↦ other
+    ])
+    old ends new first second adds)
   where
-    number : List ℕ → ℕ
-    number s = part_number (length g.scripts) of (take calls s)
-
     In : List ℕ → OutcomeValue → Type 0
     In = EndsInPart g (record { index = k; of = of; calls = calls })
-
-    to : (s : List ℕ) (x : OutcomeValue) → EndsBelow g of calls k s x ⊎ In s x
-        → EndsBelow g of calls (k + 1) s x
-    to s x h =
-        elim h [
-          | inl below ↦ (below.0, (let less = below.1 in omega arith))
-          | inr here ↦ (here.0, (let is = here.1 in omega arith))
-        ]
-
-    from : (s : List ℕ) (x : OutcomeValue) → EndsBelow g of calls (k + 1) s x
-        → EndsBelow g of calls k s x ⊎ In s x
-    from s x h =
-        elim (cases_lt (part_number (length g.scripts) of (take calls s)) k) [
-          | inl less ↦ inl (h.0, less)
-          | inr more ↦ inr (h.0, (let less = h.1 in omega arith))
-        ]
-
-    beside : (s t : List ℕ) (x y : OutcomeValue) → EndsBelow g of calls k s x → In t y
-        → IsBefore s t ⊎ IsBefore t s
-    beside s t x y below here =
-        elim (compared g s t x y below.0 here.0) [
-          | inl same ↦
-              absurd (let less = below.1 in
-              let is = here.1 in
-              let one = ap number same.0 in omega arith)
-          | inr other ↦ other
-        ]
-
-    spread : (s t : List ℕ) (x y : OutcomeValue) → (x ≡ y → ⊥) → In s x → In t y
-        → IsBefore s t ⊎ IsBefore t s
-    spread s t x y differs a b =
-        elim (compared g s t x y a.0 b.0) [ inl same ↦ absurd (differs same.1) | inr other ↦ other ]
 
 -- those of several more
 lists_added : (g : Setting) (of calls k : ℕ) (lists : List (List Ending)) (old new : List Ending)
@@ -97,23 +83,16 @@ lists_added : (g : Setting) (of calls k : ℕ) (lists : List (List Ending)) (old
     → AreCounted (EndsBelow g of calls k) old → AddsLists old lists new
     → AreCounted (EndsBelow g of calls (k + length lists)) new
 lists_added g of calls k [] old new each ok adds =
-    subst (AreCounted (EndsBelow g of calls (k + 0))) (sym adds)
-    (subst (λ (n : ℕ). AreCounted (EndsBelow g of calls n) old) (let e : k ≡ k + 0 = omega arith in e) ok)
+    rw adds (let e : k ≡ k + 0 = omega arith in rw e at ok)
 lists_added g of calls k (ends ∷ lists) old new each ok adds =
-    subst (λ (n : ℕ). AreCounted (EndsBelow g of calls n) new)
-    (let e : (k + 1) + length lists ≡ k + suc (length lists) = omega arith in e)
-    (lists_added g of calls (k + 1) lists adds.0 new rest
-    (part_added g of calls k old ends adds.0 ok
-    (subst (λ (n : ℕ). AreCounted (EndsInPart g (record { index = n; of = of; calls = calls })) ends)
-    (let e : k + 0 ≡ k = omega arith in e) (each 0 ends refl))
-    adds.1)
-    adds.2)
+    let all : k + suc (length lists) ≡ (k + 1) + length lists = omega arith in
+    let here : k + 0 ≡ k = omega arith in
+    rw all (lists_added g of calls (k + 1) lists adds.0 new rest
+    (part_added g of calls k old ends adds.0 ok (rw here at (each 0 ends refl)) adds.1) adds.2)
   where
     rest : (j : ℕ) (more : List Ending) → slice_get lists j ≡ Some more
         → AreCounted (EndsInPart g (record { index = (k + 1) + j; of = of; calls = calls })) more
-    rest j more h =
-        subst (λ (n : ℕ). AreCounted (EndsInPart g (record { index = n; of = of; calls = calls })) more)
-        (let e : k + suc j ≡ (k + 1) + j = omega arith in e) (each (suc j) more h)
+    rest j more h = let e : (k + 1) + j ≡ k + suc j = omega arith in rw e (each (suc j) more h)
 
 -- those of all
 pub all_below : (g : Setting) (of calls : ℕ) (ends : List Ending) → 0 < of
@@ -125,17 +104,10 @@ all_below g of calls ends some ok =
 pub all_added : (g : Setting) (calls : ℕ) (lists : List (List Ending)) (new : List Ending) → 0 < length lists
     → AreParts g calls lists → AddsLists [] lists new → AreCounted (EndsWith g) new
 all_added g calls lists new some parts adds =
-    all_below g (length lists) calls new some
-    (subst (λ (n : ℕ). AreCounted (EndsBelow g (length lists) calls n) new)
-    (let e : 0 + length lists ≡ length lists = omega arith in e)
-    (lists_added g (length lists) calls 0 lists [] new each (none_below g (length lists) calls) adds))
-  where
-    each : (j : ℕ) (ends : List Ending) → slice_get lists j ≡ Some ends
-        → AreCounted (EndsInPart g (record { index = 0 + j; of = length lists; calls = calls })) ends
-    each j ends h =
-        subst
-        (λ (n : ℕ). AreCounted (EndsInPart g (record { index = n; of = length lists; calls = calls })) ends)
-        (let e : j ≡ 0 + j = omega arith in e) (parts j ends h)
+    let none : 0 + length lists ≡ length lists = omega arith in
+    all_below g (length lists) calls new some (rw none at (lists_added g (length lists) calls 0 lists [] new
+    (λ j ends h. let e : 0 + j ≡ j = omega arith in rw e (parts j ends h))
+    (none_below g (length lists) calls) adds))
 
 -- ---- their order
 
@@ -149,21 +121,13 @@ sorted_in_order g old new moved ok i j e f less h k =
       | inr sides ↦ elim sides [ inl before ↦ before | inr after ↦ absurd (wrong after) ]
     ]
   where
-    later : Ending → Ending → Type 0
-    later a b = is_lt (slice_cmp nat_cmp a.first.items b.first.items) ≡ false
-
-    not_less : later f e
-    not_less =
+    wrong : IsBefore f.first.items e.first.items → ⊥
+    wrong after =
         let far =
         sorted_far (λ (a b : Ending). is_lt (slice_cmp nat_cmp a.first.items b.first.items))
         (ranks_by nat_list_cmp_total (λ (a : Ending). a.first.items)) new moved.sorted i j e
         (let le : i ≤ j = omega arith in le) (slice_get_within new j f k) in
-        subst (λ (a : Ending). later a e) (get_or_from_slice_get new j f e k)
-        (subst (λ (a : Ending). later (get_or new j e) a) (get_or_from_slice_get new i e e h) far)
-
-    wrong : IsBefore f.first.items e.first.items → ⊥
-    wrong after =
-        let no = not_less in
+        let no = rw (get_or_from_slice_get new j f e k, get_or_from_slice_get new i e e h) at far in
         let is = ap is_lt (before_less f.first.items e.first.items after) in cc
 
 pub all_sorted : (g : Setting) (old new : List Ending) → AreSorted old new → AreCounted (EndsWith g) old

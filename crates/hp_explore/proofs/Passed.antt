@@ -1,13 +1,13 @@
 -- What a search has passed, from turn to turn.
-use Rattle.std.proofs.Common.{◌≡◌, ℕ, ◌+◌, List, [], ◌∷◌, ◌++◌, length, Option, Some, None, refl, ap, sym, subst, ◌∙◌, inl, inr}
+use Rattle.std.proofs.Common.{◌≡◌, ℕ, ◌+◌, List, [], ◌∷◌, ◌++◌, length, Some, None, ap, sym, subst, ◌∙◌, inl, inr}
 use Rattle.std.proofs.lemmas.List.{append_assoc, append-nil}
 use Rattle.std.proofs.lemmas.Option.{none-some}
-use Rattle.hp_units.specs.declared.events.Event.{Event}
 use Rattle.hp_units.specs.declared.replies.Record.{Record}
 use Rattle.hp_schedules.specs.Orders.{Extends}
 use Rattle.hp_schedules.specs.Schedules.{Setting, next_call, plays}
-use Rattle.hp_schedules.proofs.Plays.{asks_within, stops}
+use Rattle.hp_schedules.proofs.Plays.{stops}
 use Rattle.hp_schedules.proofs.Regions.{before_first, before_longer, before_next, extends_before}
+use Rattle.hp_explore.proofs.Continued.{goes_within}
 use Rattle.hp_explore.specs.Aims.{AimValue, IsDone, IsLawful, NoneBefore, NoneFrom}
 use Rattle.hp_explore.proofs.FindRooms.{spared_from}
 use Rattle.hp_states.specs.Walks.{HasRoomBefore}
@@ -41,18 +41,13 @@ pub only_here : (g : Setting) (aim : AimValue) (p : List ℕ) (news : List Recor
     → Extends s p → s ≡ p
 only_here g aim p news lawful played none s sought on = by_rest on.0 on.1
   where
-    by_next : (c : ℕ) (rest : List ℕ) → s ≡ p ++ c ∷ rest → (next : Option Event) → next_call g c news ≡ next
-        → s ≡ p
-    by_next c rest is None over =
-        let end = lawful.played s sought in
-        absurd (none-some end.0 (sym (ap (plays g) is ∙ stops g p rest news c played over) ∙ end.1))
-    by_next c rest is (Some event) asks =
-        absurd (none s sought (extends_before s p c (length g.scripts) (asks_within g news c event asks)
-        (rest, is ∙ sym (append_assoc p (c ∷ []) rest))))
-
     by_rest : (rest : List ℕ) → s ≡ p ++ rest → s ≡ p
     by_rest [] is = is ∙ append-nil p
-    by_rest (c ∷ rest) is = by_next c rest is (next_call g c news) refl
+    by_rest (c ∷ rest) is =
+        let end = lawful.played s sought in
+        absurd (none s sought (extends_before s p c (length g.scripts)
+        (goes_within g p rest c news end.0 played (ap (plays g) (sym is) ∙ end.1))
+        (rest, is ∙ sym (append_assoc p (c ∷ []) rest))))
 
 -- and it is done if it is not sought
 pub done_from : (g : Setting) (aim : AimValue) (p : List ℕ) (news : List Record) → IsLawful g aim

@@ -1,13 +1,12 @@
 -- A path one turn further, and one turn back.
 use Rattle.std.proofs.Common.{◌≡◌, ◌<◌, ℕ, List, [], ◌∷◌, ◌++◌, length, reverse, set, Option, Some, None, Bool, true, false, Result, Ok, Err, IfOk, OnErr, refl, ap, sym, subst, ◌∙◌, arith}
-use Rattle.std.proofs.lemmas.List.{length_push, reverse-append}
+use Rattle.std.proofs.lemmas.List.{reverse-append}
 use Rattle.hp_units.specs.declared.events.Event.{Event}
 use Rattle.hp_units.specs.declared.replies.Record.{Record}
 use Rattle.hp_steps.specs.Steps.{StepsValue}
 use Rattle.hp_schedules.specs.Cursors.{AreCursors, IsCalledFor}
 use Rattle.hp_explore.specs.Paths.{IsAdvanced, IsBack, IsForth, IsPath, IsTakenBack, IsTurned, IsWayBack, PathValue}
 use Rattle.hp_schedules.specs.Schedules.{Setting, next_call, record_of_call}
-use Rattle.hp_states.specs.Walks.{IsAt}
 use Rattle.hp_schedules.specs.declared.cursors.Cursor.{Cursor}
 use Rattle.hp_schedules.specs.declared.cursors.NextCall.{NextCall}
 use Rattle.hp_explore.specs.declared.exploring.ExploreFault.{ExploreFault}
@@ -19,26 +18,11 @@ pub called_there : (g : Setting) (cpu : ℕ) (given news : List Record) (cursors
     (request : Option NextCall) → given ≡ news
     → (AreCursors g given cursors → IsCalledFor g cpu given request)
     → AreCursors g news cursors → IsCalledFor g cpu news request
-called_there g cpu given news cursors request is told at =
-    subst (λ (h : List Record). IsCalledFor g cpu h request) is
-    (told (subst (λ (h : List Record). AreCursors g h cursors) (sym is) at))
+called_there g cpu given news cursors request is told at = rw (← is) (told (rw is at))
 
 -- where scripts stand after new records
 abbrev pub path_of : Setting → List Record → PathValue
 path_of g news = record { setting = g; news = news }
-
-reverse_push : (turns : List Turn) (turn : Turn) → reverse (turns ++ turn ∷ []) ≡ turn ∷ reverse turns
-reverse_push turns turn = reverse-append turns (turn ∷ [])
-
--- no turn yet
-pub path_begins : (g : Setting) (here : StepsValue) (cursors : List Cursor) (turns : List Turn) → IsAt g here
-    → here.records ≡ [] → AreCursors g [] cursors → turns ≡ [] → IsPath g here cursors turns
-path_begins g here cursors turns at none begun is =
-    subst (IsPath g here cursors) (sym is) (record {
-      at = at;
-      cursors_at = subst (λ (h : List Record). AreCursors g h cursors) (sym none) begun;
-      back = none;
-    })
 
 -- one turn more
 path_forth : (g : Setting) (old new : StepsValue) (cpu : ℕ) (event : Event) (turn : Turn)
@@ -52,7 +36,7 @@ path_forth g old new cpu event turn cursors moved reserved turns so_far turned t
       at = turned.at;
       cursors_at = there;
       back =
-          subst (IsWayBack g new moved) (sym (ap reverse is ∙ reverse_push reserved turn)) (
+          subst (IsWayBack g new moved) (sym (ap reverse is ∙ reverse-append reserved (turn ∷ []))) (
             old,
             record_of_call g old.records cpu event,
             so_far.at,
@@ -71,11 +55,7 @@ pub turned_latest : (g : Setting) (old new : StepsValue) (cpu : ℕ) (event : Ev
     → ((before : List Record) (r : Record) → new.records ≡ before ++ r ∷ [] → latest ≡ r)
     → (latest.cpu ≡ cpu) × (new.records ≡ old.records ++ latest ∷ [])
 unfolding record_of_call
-turned_latest g old new cpu event way latest turned last =
-    let is = last old.records (record_of_call g old.records cpu event) turned.records in (
-      ap (λ (r : Record). r.cpu) is,
-      turned.records ∙ ap (λ (r : Record). old.records ++ r ∷ []) (sym is),
-    )
+turned_latest g old new cpu event way latest turned last = grind arith
 
 abbrev turn_of : Way → Cursor → Turn
 turn_of way from = record { way = way; from = from }
@@ -100,28 +80,6 @@ advanced g old new cpu event way latest from cursors moved turns later asked tur
       is,
     )
 
--- the latest turn
-pub latest_turn : (g : Setting) (here : StepsValue) (cursors : List Cursor) (turns rest : List Turn)
-    (turn : Turn)
-    → IsPath g here cursors turns → turns ≡ rest ++ turn ∷ []
-    → IsWayBack g here cursors (turn ∷ reverse rest)
-latest_turn g here cursors turns rest turn path is =
-    subst (IsWayBack g here cursors) (ap reverse is ∙ reverse_push rest turn) path.back
-
--- there is a record of it
-pub latest_some : (g : Setting) (here : StepsValue) (cursors : List Cursor) (rest : List Turn) (turn : Turn)
-    → IsWayBack g here cursors (turn ∷ rest) → 0 < length here.records
-latest_some g here cursors rest turn back =
-    omega (arith, ap length back.3, length_push back.0.records back.1)
-
--- of a processor that has a cursor
-pub latest_within : (g : Setting) (here : StepsValue) (cursors : List Cursor) (rest : List Turn) (turn : Turn)
-    (cpu : ℕ) (back : IsWayBack g here cursors (turn ∷ rest))
-    → ((before : List Record) (r : Record) → here.records ≡ before ++ r ∷ [] → r.cpu ≡ cpu)
-    → cpu < length cursors
-latest_within g here cursors rest turn cpu back whose =
-    subst (λ (k : ℕ). k < length cursors) (whose back.0.records back.1 back.3) back.5
-
 -- the latest turn taken back
 pub taken_back : (g : Setting) (here new : StepsValue) (cpu : ℕ) (cursors moved : List Cursor)
     (rest : List Turn) (turn : Turn) (back : IsWayBack g here cursors (turn ∷ reverse rest))
@@ -132,10 +90,7 @@ taken_back g here new cpu cursors moved rest turn back is moved_is whose = (
   back.1,
   own,
   back.3 ∙ ap (λ (p : StepsValue). p.records ++ back.1 ∷ []) (sym is),
-  subst (λ (p : StepsValue). IsPath g p moved rest) (sym is)
-      (subst (λ (cs : List Cursor). IsPath g back.0 cs rest)
-      (ap (λ (k : ℕ). set cursors k turn.from) own ∙ sym moved_is)
-      (record { at = back.2; cursors_at = back.6; back = back.7 })),
+  rw (is, moved_is, ← own) (record { at = back.2; cursors_at = back.6; back = back.7 }),
 )
   where
     own : back.1.cpu ≡ cpu
@@ -156,10 +111,7 @@ none_made g here cursors turns rest path is none =
 
 stayed : (g : Setting) (old new : StepsValue) (cursors moved : List Cursor) (turns later : List Turn)
     → IsPath g old cursors turns → new ≡ old → moved ≡ cursors → later ≡ turns → IsPath g new moved later
-stayed g old new cursors moved turns later path here there is =
-    subst (λ (p : StepsValue). IsPath g p moved later) (sym here)
-    (subst (λ (cs : List Cursor). IsPath g old cs later) (sym there)
-    (subst (IsPath g old cursors) (sym is) path))
+stayed g old new cursors moved turns later path here there is = rw (here, there, is) path
 
 pub path_advanced : (g : Setting) (old new : StepsValue) (cpu : ℕ) (cursors moved : List Cursor)
     (turns later : List Turn) (result : Result Bool ExploreFault)
@@ -178,11 +130,9 @@ pub forth_shown : (g : Setting) (old new : StepsValue) (cpu : ℕ) (cursors move
     → path_of g old.records ≡ p → IsAdvanced g old cursors turns cpu went new moved later
     → IsForth p cpu went (path_of g new.records)
 forth_shown g old new cpu cursors moved turns later true p is ok =
-    subst (λ (x : PathValue). IsForth x cpu true (path_of g new.records)) is
-    (ok.0, ok.2, ok.3.room, ap (path_of g) ok.3.records)
+    rw (← is) (ok.0, ok.2, ok.3.room, ap (path_of g) ok.3.records)
 forth_shown g old new cpu cursors moved turns later false p is ok =
-    subst (λ (x : PathValue). IsForth x cpu false (path_of g new.records)) is
-    (ok.0, ap (λ (x : StepsValue). path_of g x.records) ok.1)
+    rw (← is) (ok.0, ap (λ (x : StepsValue). path_of g x.records) ok.1)
 
 pub path_taken : (g : Setting) (old new : StepsValue) (result : Option ℕ) (cursors : List Cursor)
     (turns : List Turn)
@@ -195,8 +145,6 @@ pub back_shown : (g : Setting) (old new : StepsValue) (result : Option ℕ) (cur
     → path_of g old.records ≡ p → IsTakenBack g old result new cursors turns
     → IsBack p result (path_of g new.records)
 back_shown g old new None cursors turns p is taken =
-    subst (λ (x : PathValue). IsBack x None (path_of g new.records)) is
-    (taken.0, ap (λ (x : StepsValue). path_of g x.records) taken.1)
+    rw (← is) (taken.0, ap (λ (x : StepsValue). path_of g x.records) taken.1)
 back_shown g old new (Some cpu) cursors turns p is taken =
-    subst (λ (x : PathValue). IsBack x (Some cpu) (path_of g new.records)) is
-    (taken.0, taken.1, ap (path_of g) taken.2)
+    rw (← is) (taken.0, taken.1, ap (path_of g) taken.2)

@@ -1,6 +1,6 @@
 -- Places with one key go on alike, so what is done from the one is done from the other.
-use Rattle.std.proofs.Common.{◌≡◌, ℕ, suc, ◌+◌, List, [], ◌∷◌, ◌++◌, length, Option, None, Some, refl, ap, sym, subst, ◌∙◌, arith}
-use Rattle.std.specs.Prelude.{◌||◌, nat_le, option_map}
+use Rattle.std.proofs.Common.{◌≡◌, ℕ, ◌+◌, List, [], ◌∷◌, ◌++◌, length, Option, None, Some, refl, ap, sym, subst, ◌∙◌, arith}
+use Rattle.std.specs.Prelude.{option_map}
 use Rattle.std.proofs.lemmas.Option.{none-some}
 use Rattle.std.proofs.lemmas.List.{append_assoc}
 use Rattle.hp_units.specs.Placement.{IsShaped}
@@ -43,14 +43,7 @@ pub steered_more : (p : ℕ → ℕ) (scripts : List (List Step)) (news : List R
     × ((g : Setting) → g.scripts ≡ scripts → AreCursors g news cursors → IsSteered p g cpu news part))
     → (part : List ℕ) × (new ≡ old ++ part)
     × ((g : Setting) → g.scripts ≡ scripts → AreCursors g news cursors → AreSteered p g (cpu + 1) news part)
-steered_more p scripts news cursors cpu old mid new so_far more = (
-  so_far.0 ++ more.0,
-  more.1 ∙ (ap (λ (xs : List ℕ). xs ++ more.0) so_far.1 ∙ append_assoc old so_far.0 more.0),
-  λ g are at.
-      let next : suc cpu ≡ cpu + 1 = omega arith in
-      subst (λ (n : ℕ). AreSteered p g n news (so_far.0 ++ more.0)) next
-      (so_far.0, more.0, refl, more.2 g are at, so_far.2 g are at),
-)
+steered_more p scripts news cursors cpu old mid new so_far more = grind (arith, append_assoc)
 
 -- the numbers are written part by part
 pub numbers_made : (g : Setting) (aim : AimValue) (stops : StopsValue) (news given : List Record)
@@ -71,18 +64,9 @@ numbers_made g aim stops news given scripts cursors processors numbers none firs
       openings = written.0;
       steering = steering.0;
       marks = marks.0;
-      numbers_are =
-          marks.1
-          ∙ ap (λ (xs : List ℕ). xs ++ marks.0)
-          (steering.1
-          ∙ ap (λ (xs : List ℕ). xs ++ steering.0)
-          (written.1 ∙ ap (λ (xs : List ℕ). xs ++ written.0 ∷ []) empty));
+      numbers_are = rw (marks.1, steering.1, written.1, empty);
       numbered = written.2 (numbering g) g news stands;
-      steered =
-          subst (λ (p : ℕ → ℕ). AreSteered p g (length g.scripts) news steering.0) numbered
-          (subst (λ (n : ℕ). AreSteered numbers g n news steering.0) many
-          (subst (λ (h : List Record). AreSteered numbers g processors h steering.0) told
-          (steering.2 g (sym are) (subst (λ (h : List Record). AreCursors g h cursors) (sym told) at))));
+      steered = rw (← numbered, ← many, ← told) (steering.2 g (sym are) (rw told at));
       marked = marks.2;
     }
 
@@ -96,12 +80,7 @@ key_written g aim stops news numbers given key p m same is shaped numbered here 
   record {
     numbers = numbers;
     are = are;
-    key_is =
-        is
-        ∙ (ap (λ (ns : List ℕ). place_code m.layout ns (renumbered p m.state)) same
-        ∙ (ap (λ (q : ℕ → ℕ). place_code m.layout numbers (renumbered q m.state)) numbered
-        ∙ ap (λ (v : MemoryValue). place_code v.layout numbers (renumbered (numbering g news) v.state))
-        here));
+    key_is = rw (is, same, numbered, here);
     shaped =
         subst (λ (v : MemoryValue). IsShaped v.layout (renumbered (numbering g news) v.state)) here
         (subst (λ (q : ℕ → ℕ). IsShaped m.layout (renumbered q m.state)) numbered shaped);
@@ -136,29 +115,25 @@ pub keys_alike : (g : Setting) (aim : AimValue) (stops : StopsValue) (h k : List
     → IsLawful g aim → AreMergeable g.scripts → plays g (schedule_of h) ≡ Some h
     → plays g (schedule_of k) ≡ Some k
     → IsPlaceKey g aim stops h key → IsPlaceKey g aim stops k key → ContinueAlike g h k
-keys_alike g aim stops h k key lawful mergeable first second a b = record {
-  first_numbers = numbering g h;
-  second_numbers = numbering g k;
-  first_differ = differ (greatest_named g.scripts) (ops_at g h);
-  second_differ = differ (greatest_named g.scripts) (ops_at g k);
-  same =
-      steered_same (numbering g h) (numbering g k) g h k mergeable calls
-      (λ n past. later_number g h n first past
-      ∙ sym (later_number g k n second (omega (arith, past, all_calls g h k calls))))
-      (λ cpu lines here. scripts_named (ops_at g h) (ops_at g k) g.scripts cpu lines here)
-      (λ cpu within. steered_at (numbering g h) (numbering g k) g h k a.are.steering b.are.steering same.2
-      a.are.steered b.are.steered cpu within)
-      (openings_join (numbering g h) (numbering g k) g stops h k b.are.openings same.0
-      (subst (λ (n : ℕ). IsNumbered (numbering g h) g stops.codes stops.lists h (Some n)) same.1
-      a.are.numbered) b.are.numbered);
-}
-  where
-    same : (numbered_state g h ≡ numbered_state g k) × (a.are.openings ≡ b.are.openings)
-        × (a.are.steering ≡ b.are.steering) × (a.are.marks ≡ b.are.marks)
-    same = key_parts g aim stops h k key a b
-
-    calls : length h ≡ length k
-    calls = lawful.counted h k b.are.marks first second (subst (aim.marks h) same.3 a.are.marked) b.are.marked
+keys_alike g aim stops h k key lawful mergeable first second a b =
+    let same = key_parts g aim stops h k key a b in
+    let calls : length h ≡ length k =
+    lawful.counted h k b.are.marks first second (rw (← same.3) a.are.marked) b.are.marked in
+    record {
+      first_numbers = numbering g h;
+      second_numbers = numbering g k;
+      first_differ = differ (greatest_named g.scripts) (ops_at g h);
+      second_differ = differ (greatest_named g.scripts) (ops_at g k);
+      same =
+          steered_same (numbering g h) (numbering g k) g h k mergeable calls
+          (λ n past. later_number g h n first past
+          ∙ sym (later_number g k n second (omega (arith, past, all_calls g h k calls))))
+          (λ cpu lines here. scripts_named (ops_at g h) (ops_at g k) g.scripts cpu lines here)
+          (λ cpu within. steered_at (numbering g h) (numbering g k) g h k a.are.steering b.are.steering same.2
+          a.are.steered b.are.steered cpu within)
+          (openings_join (numbering g h) (numbering g k) g stops h k b.are.openings same.0
+          (rw (← same.1) a.are.numbered) b.are.numbered);
+    }
 
 -- a call for which the history has no room has none from the other
 room_alike : (g : Setting) (p q rest : List ℕ) (h k : List Record) → AreMergeable g.scripts
@@ -181,9 +156,7 @@ room_alike g p q rest h k all first second alike full =
       event = event;
       played = on.played;
       asked = asked;
-      full =
-          ap (λ (n : ℕ). nat_le g.layout.history n || nat_le 18446744073709551615 (g.before + n))
-          (sym (all_calls g full.news (k ++ on.others) on.after.calls)) ∙ full.full;
+      full = rw (← all_calls g full.news (k ++ on.others) on.after.calls, full.full);
     }
 
 -- so what is done from the one is done from the other
@@ -194,29 +167,23 @@ pub done_alike : (g : Setting) (aim : AimValue) (stops : StopsValue) (h k : List
     → aim.admits (schedule_of h) → aim.admits (schedule_of k)
     → IsPlaceKey g aim stops h key → IsPlaceKey g aim stops k key
     → IsDone g aim (schedule_of h) → IsDone g aim (schedule_of k)
-done_alike g aim stops h k key lawful mergeable first second admitted here a b done = (
-  λ s sought on. done.0 (schedule_of h ++ on.0)
-      (lawful.continued k h b.are.marks on.0 (record {
-        mergeable = mergeable;
-        first_played = second;
-        second_played = first;
-        alike = back;
-        first_numbers = numbering g k;
-        second_numbers = numbering g h;
-        steering = b.are.steering;
-        first_steered = b.are.steered;
-        second_steered =
-            subst (AreSteered (numbering g h) g (length g.scripts) h) same.2 a.are.steered;
-      }) here admitted b.are.marked (subst (aim.marks h) same.3 a.are.marked) (subst aim.sought on.1 sought))
-      (on.0, refl),
-  λ whole s full on. done.1 whole (schedule_of h ++ on.0)
-      (room_alike g (schedule_of k) (schedule_of h) on.0 k h mergeable second first back
-      (subst (HasNoRoom g) on.1 full)) (on.0, refl),
-)
-  where
-    same : (numbered_state g h ≡ numbered_state g k) × (a.are.openings ≡ b.are.openings)
-        × (a.are.steering ≡ b.are.steering) × (a.are.marks ≡ b.are.marks)
-    same = key_parts g aim stops h k key a b
-
-    back : ContinueAlike g k h
-    back = keys_alike g aim stops k h key lawful mergeable second first b a
+done_alike g aim stops h k key lawful mergeable first second admitted here a b done =
+    let same = key_parts g aim stops h k key a b in
+    let back = keys_alike g aim stops k h key lawful mergeable second first b a in (
+      λ s sought on. done.0 (schedule_of h ++ on.0)
+          (lawful.continued k h b.are.marks on.0 (record {
+            mergeable = mergeable;
+            first_played = second;
+            second_played = first;
+            alike = back;
+            first_numbers = numbering g k;
+            second_numbers = numbering g h;
+            steering = b.are.steering;
+            first_steered = b.are.steered;
+            second_steered = rw (← same.2) a.are.steered;
+          }) here admitted b.are.marked (rw (← same.3) a.are.marked) (rw (← on.1) sought))
+          (on.0, refl),
+      λ whole s full on. done.1 whole (schedule_of h ++ on.0)
+          (room_alike g (schedule_of k) (schedule_of h) on.0 k h mergeable second first back
+          (rw (← on.1) full)) (on.0, refl),
+    )

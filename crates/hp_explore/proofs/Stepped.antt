@@ -9,7 +9,6 @@ use Rattle.hp_units.specs.Memory.{Memory}
 use Rattle.hp_units.specs.Step.{step}
 use Rattle.hp_units.specs.declared.events.Event.{Event}
 use Rattle.hp_units.specs.declared.replies.Record.{Record}
-use Rattle.hp_units.specs.declared.replies.Reply.{Reply}
 use Rattle.hp_laws.proofs.Net.{net-push, run-push}
 use Rattle.hp_laws.proofs.Records.{with_good}
 use Rattle.hp_laws.proofs.Replays.{net_bad}
@@ -67,21 +66,19 @@ pub step_recorded : (g : Setting) (p : StepsValue) (serial cpu : ℕ) (event : E
     → record_of_step p.layout p.state serial cpu event ≡ record_of_call g p.records cpu event
 unfolding record_of_call reply_of
 step_recorded g p serial cpu event here goes is =
-    ap (λ (l : LayoutParts). record_of_step l p.state serial cpu event) here.layout
-    ∙ (ap (λ (s : Memory). record_of_step g.layout s serial cpu event) here.state
-    ∙ (ap (λ (k : ℕ). record_of_step g.layout now k cpu event) is
-    ∙ ap (λ (reply : Reply). recorded reply) (sym (plain_reply g.layout g.before
-    (g.before + length (g.start ++ p.records)) (net_of (g.start ++ p.records)) now next cpu event
-    (effect_of event) goes))))
+    rw (
+      here.layout,
+      here.state,
+      is,
+      ← plain_reply g.layout g.before (g.before + length (g.start ++ p.records))
+          (net_of (g.start ++ p.records)) now next cpu event (effect_of event) goes,
+    )
   where
     now : Memory
     now = value_of g.layout g.base (g.start ++ p.records)
 
     next : ℕ
     next = g.before + length (g.start ++ p.records) + 1
-
-    recorded : Reply → Record
-    recorded reply = record { serial = next; cpu = cpu; event = event; reply = reply }
 
 -- where a step leads to
 pub stepped_at : (g : Setting) (p n : StepsValue) (serial cpu mark : ℕ) (event : Event) → IsAt g p
@@ -96,30 +93,25 @@ stepped_at g p n serial cpu mark event here asked goes is made = record {
       ∙ (ap (plays g)
       (map-append (λ (r : Record). r.cpu) p.records (record_of_call g p.records cpu event ∷ []))
       ∙ (plays_push g (schedule_of p.records) p.records cpu event here.played asked ∙ ap Some (sym longer)));
-  state = state ∙ ap (λ (h : List Record). value_of g.layout g.base (g.start ++ h)) (sym made.later.records);
+  state = rw made.later.records state;
 }
   where
     made_record : Record
     made_record = record_of_step p.layout p.state serial cpu event
 
     longer : n.records ≡ p.records ++ record_of_call g p.records cpu event ∷ []
-    longer =
-        made.later.records
-        ∙ ap (λ (r : Record). p.records ++ r ∷ []) (step_recorded g p serial cpu event here goes is)
+    longer = cc (step_recorded g p serial cpu event here goes is)
 
     told : made_record.reply
         ≡ (step g.layout (value_of g.layout g.base (g.start ++ p.records)) serial cpu event).reply
-    told =
-        ap (λ (l : LayoutParts). (step l p.state serial cpu event).reply) here.layout
-        ∙ ap (λ (s : Memory). (step g.layout s serial cpu event).reply) here.state
+    told = cc
 
     state : n.state ≡ value_of g.layout g.base (g.start ++ (p.records ++ made_record ∷ []))
     state =
-        made.state
-        ∙ (ap (λ (l : LayoutParts). (step l p.state serial cpu event).memory) here.layout
-        ∙ (ap (λ (s : Memory). (step g.layout s serial cpu event).memory) here.state
-        ∙ (plain_state g.layout g.base (g.start ++ p.records) made_record goes told
-        ∙ ap (value_of g.layout g.base) (append_assoc g.start p.records (made_record ∷ [])))))
+        cc (
+          plain_state g.layout g.base (g.start ++ p.records) made_record goes told,
+          append_assoc g.start p.records (made_record ∷ []),
+        )
 
 -- ---- a machine
 
@@ -128,11 +120,9 @@ pub machine_at : (g : Setting) (m : MachineValue) (p : StepsValue) → IsReached
     → m.state ≡ value_of m.layout m.base m.history → p.layout ≡ m.layout → p.state ≡ m.state
     → p.records ≡ news_in g m → IsAt g p
 machine_at g m p here kept layout state records = record {
-  layout = layout ∙ here.layout;
+  layout = rw (layout, here.layout);
   played = subst (λ (h : List Record). plays g (schedule_of h) ≡ Some h) (sym records) here.played;
-  state =
-      state ∙ (state_here g m here kept
-      ∙ ap (λ (h : List Record). value_of g.layout g.base (g.start ++ h)) (sym records));
+  state = rw (state, state_here g m here kept, ← records);
 }
 
 -- a call that is asked for leads somewhere

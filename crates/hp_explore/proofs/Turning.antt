@@ -37,8 +37,7 @@ pub turned_kept : (g : Setting) (p n now : StepsValue) (cpu : ℕ) (event : Even
     → ((r : Record) → n.records ≡ p.records ++ r ∷ [] → IsWayOver way p r n) → now ≡ n
     → IsTurned g p cpu event way now
 turned_kept g p n now cpu event way here asked leads room over now_is =
-    subst (IsTurned g p cpu event way) (sym now_is)
-    (record { at = leads.0; room = room; records = longer; over = over _ longer })
+    rw now_is (record { at = leads.0; room = room; records = longer; over = over _ longer })
   where
     longer : n.records ≡ p.records ++ record_of_call g p.records cpu event ∷ []
     longer =

@@ -1,15 +1,14 @@
 -- What a turn of the walk leaves, by what the path did.
-use Rattle.std.proofs.Common.{◌≡◌, ℕ, ◌+◌, ◌<◌, ◌≤◌, Bool, true, false, List, [], ◌∷◌, ◌++◌, length, Option, Some, None, refl, ap, sym, subst, ◌∙◌, arith}
+use Rattle.std.proofs.Common.{◌≡◌, ℕ, ◌+◌, ◌<◌, ◌≤◌, Bool, true, false, List, [], ◌∷◌, ◌++◌, length, Option, Some, refl, ap, sym, subst, ◌∙◌, arith}
 use Rattle.std.proofs.lemmas.Bool.{leb-false, or_parts}
 use Rattle.std.proofs.lemmas.List.{length-append, length_push}
 use Rattle.hp_units.specs.declared.replies.Record.{Record}
 use Rattle.hp_units.specs.History.{effect_of}
-use Rattle.hp_units.specs.declared.events.Event.{Event}
 use Rattle.hp_schedules.specs.Alike.{leaves_steps}
 use Rattle.hp_states.specs.Rooms.{is_full_after}
 use Rattle.hp_explore.specs.Frames.{AreBelow, AreWalked}
 use Rattle.hp_memory.specs.Memory.{MemoryValue}
-use Rattle.hp_states.specs.Frames.{GoOn, IsArrival, IsFrame, IsLeaving}
+use Rattle.hp_states.specs.Frames.{GoOn, IsArrival}
 use Rattle.hp_states.specs.Places.{memory_at}
 use Rattle.hp_schedules.specs.Cursors.{AreCursors}
 use Rattle.hp_schedules.specs.declared.cursors.Cursor.{Cursor}
@@ -22,44 +21,8 @@ use Rattle.hp_states.specs.Walks.{IsPartWalkedBefore, IsPartWalkedThrough}
 use Rattle.hp_states.specs.declared.frames.Level.{Level}
 use Rattle.hp_schedules.proofs.Alike.{call_leaves, event_kept}
 use Rattle.hp_schedules.specs.declared.tally.Ending.{Ending}
-use Rattle.hp_explore.proofs.Framing.{back_setting, back_shorter, walk_back, walk_leads, walk_passes}
+use Rattle.hp_explore.proofs.Framing.{back_setting, back_shorter, walk_back}
 use Rattle.hp_explore.proofs.Paths.{path_of}
-
--- a processor asked for nothing
-pub passed_on : (p q : PathValue) (part : PartValue) (tally : TallyValue) (frame later : Level)
-    (frames all : List Level)
-    → plays p.setting (schedule_of p.news) ≡ Some p.news → IsForth p frame.next false q
-    → frame.next < length p.setting.scripts → later ≡ record frame { next = frame.next + 1 }
-    → all ≡ later ∷ frames → AreWalked p.setting part tally p.news (frame ∷ frames)
-    → AreWalked q.setting part tally q.news all
-passed_on p q part tally frame later frames all played forth less is all_is w =
-    subst (λ (x : PathValue). AreWalked x.setting part tally x.news all) (sym forth.1)
-    (subst (AreWalked p.setting part tally p.news) (sym (all_is ∙ ap (λ (f : Level). f ∷ frames) is))
-    (walk_passes p.setting part tally p.news frame frames played forth.0 less w))
-
--- a processor made its call
-pub led_on : (p q : PathValue) (part : PartValue) (tally : TallyValue) (frame later : Level)
-    (frames all : List Level)
-    → plays p.setting (schedule_of p.news) ≡ Some p.news → IsForth p frame.next true q
-    → frame.next < length p.setting.scripts
-    → later ≡ record frame { next = frame.next + 1; is_over = false }
-    → all ≡ later ∷ frames → AreWalked p.setting part tally p.news (frame ∷ frames)
-    → IsPartWalkedBefore q.setting part (schedule_of q.news) tally.ends
-    × IsOn (length q.setting.scripts) part (schedule_of q.news)
-    × AreBelow q.setting part tally (length tally.trail) q.news all
-led_on p q part tally frame later frames all played forth less is all_is w =
-    subst (λ (x : PathValue). IsPartWalkedBefore x.setting part (schedule_of x.news) tally.ends
-    × IsOn (length x.setting.scripts) part (schedule_of x.news)
-    × AreBelow x.setting part tally (length tally.trail) x.news all)
-    (sym forth.3)
-    (subst (λ (fs : List Level). IsPartWalkedBefore p.setting part (schedule_of longer) tally.ends
-    × IsOn (length p.setting.scripts) part (schedule_of longer)
-    × AreBelow p.setting part tally (length tally.trail) longer fs)
-    (sym (all_is ∙ ap (λ (f : Level). f ∷ frames) is))
-    (walk_leads p.setting part tally p.news longer frame frames forth.0 played forth.1 forth.2 less refl w))
-  where
-    longer : List Record
-    longer = p.news ++ record_of_call p.setting p.news frame.next forth.0 ∷ []
 
 -- where it leads to, in numbers
 pub way_on : (p q : PathValue) (cpu : ℕ) (latest : Record) (memo later : MemoValue) (ends : List Ending)
@@ -71,9 +34,7 @@ pub way_on : (p q : PathValue) (cpu : ℕ) (latest : Record) (memo later : MemoV
     → IsOnWay g (news ++ latest ∷ []) later)
     → IsOnWay q.setting q.news later
 way_on p q cpu latest memo later ends forth kept last way on =
-    subst (λ (x : PathValue). IsOnWay x.setting x.news later)
-    (sym (forth.3 ∙ ap (λ (s : Record). path_of p.setting (p.news ++ s ∷ [])) (sym latest_is)))
-    (on p.setting p.news way leaves)
+    rw (forth.3, ← latest_is) (on p.setting p.news way leaves)
   where
     latest_is : latest ≡ record_of_call p.setting p.news cpu forth.0
     latest_is =
@@ -81,47 +42,19 @@ way_on p q cpu latest memo later ends forth kept last way on =
 
     leaves : memo.is_on ≡ true → leaves_steps (effect_of latest.event) ≡ true
     leaves set =
-        subst (λ (e : Event). leaves_steps (effect_of e) ≡ true)
-        (sym (ap (λ (r : Record). r.event) latest_is ∙ event_kept p.setting p.news cpu forth.0))
-        (call_leaves p.setting p.news cpu forth.0 (kept.mergeable set) forth.1)
-
--- and after a call was taken back
-pub way_taken : (p q : PathValue) (cpu : ℕ) (memo later : MemoValue) → IsBack p (Some cpu) q
-    → ((g : Setting) (news : List Record) (r : Record) → r.cpu ≡ cpu → IsOnWay g (news ++ r ∷ []) memo
-    → IsOnWay g news later)
-    → IsOnWay p.setting p.news memo → IsOnWay q.setting q.news later
-way_taken p q cpu memo later back led way =
-    led q.setting q.news back.0 back.1
-    (subst (λ (x : PathValue). IsOnWay x.setting x.news memo) back.2 way)
-
-pub way_stays : (p q : PathValue) (memo : MemoValue) → IsBack p None q → IsOnWay p.setting p.news memo
-    → IsOnWay q.setting q.news memo
-way_stays p q memo back way = subst (λ (x : PathValue). IsOnWay x.setting x.news memo) (sym back.1) way
+        rw (latest_is, event_kept) (call_leaves p.setting p.news cpu forth.0 (kept.mergeable set) forth.1)
 
 -- the history has room for another record
 pub room_after : (g : Setting) (news : List Record) → is_full_after g news ≡ false
     → length (g.start ++ news) < g.layout.history
-room_after g news not_full =
-    leb-false g.layout.history (length (g.start ++ news)) (or_parts _ _ not_full).0
+room_after g news not_full = grind (arith, leb-false, or_parts)
 
 pub short_on : (p q : PathValue) (cpu : ℕ) → IsForth p cpu true q
     → length q.news ≤ q.setting.layout.history
-short_on p q cpu forth =
-    subst (λ (x : PathValue). length x.news ≤ x.setting.layout.history) (sym forth.3)
-    (omega (
-      arith,
-      room_after p.setting p.news forth.2,
-      length-append p.setting.start p.news,
-      length_push p.news (record_of_call p.setting p.news cpu forth.0),
-    ))
+short_on p q cpu forth = grind (arith, room_after, length-append, length_push)
 
 pub some_news : (p q : PathValue) (cpu : ℕ) → IsForth p cpu true q → 0 < length q.news
-some_news p q cpu forth =
-    omega (
-      arith,
-      ap (λ (x : PathValue). length x.news) forth.3,
-      length_push p.news (record_of_call p.setting p.news cpu forth.0),
-    )
+some_news p q cpu forth = omega (arith, ap (λ (x : PathValue). length x.news) forth.3, length_push)
 
 -- the setting is the same
 pub forth_setting : (p q : PathValue) (cpu : ℕ) (went : Bool) → IsForth p cpu went q → q.setting ≡ p.setting
@@ -138,14 +71,11 @@ pub gone_back : (g : Setting) (part : PartValue) (start : ℕ) (old new : TallyV
     → AreWalked q.setting part new q.news all × IsMemo q.setting new.ends memo
     × (n ≡ length q.setting.scripts) × (length q.news ≤ q.setting.layout.history)
 gone_back g part start old new news frames all cpu q memo n all_is on below walked back kept many short = (
-  subst (λ (h : Setting). AreWalked h part new q.news all) (sym same)
-      (subst (AreWalked g part new q.news) (sym all_is)
-      (walk_back g part start start old new news frames cpu (path_of g news) q (omega arith) on below
-      walked refl back)),
-  subst (λ (h : Setting). IsMemo h new.ends memo) (sym same) kept,
+  rw (same, all_is) (walk_back g part start start old new news frames cpu (path_of g news) q (omega arith) on
+      below walked refl back),
+  rw same kept,
   many ∙ ap (λ (h : Setting). length h.scripts) (sym same),
-  subst (λ (h : Setting). length q.news ≤ h.layout.history) (sym same)
-      (omega (arith, back_shorter g news cpu (path_of g news) q refl back, short)),
+  rw same (omega (arith, back_shorter g news cpu (path_of g news) q refl back, short)),
 )
   where
     same : q.setting ≡ g
@@ -170,20 +100,4 @@ arrival p part records memory cursors ends memo is memory_is at played walked on
       };
       walked = walked;
       on = on;
-    })
-
-pub leaving : (p : PathValue) (part : PartValue) (records : List Record) (cursors : List Cursor)
-    (tally : TallyValue) (memo : MemoValue) (frame : Level)
-    → records ≡ p.news → AreCursors p.setting p.news cursors
-    → plays p.setting (schedule_of p.news) ≡ Some p.news → IsFrame p.setting part p.news tally frame
-    → IsPartWalkedThrough p.setting part (schedule_of p.news) tally.ends → IsMemo p.setting tally.ends memo
-    → IsOnWay p.setting p.news memo → IsLeaving p.setting part records cursors tally memo frame
-leaving p part records cursors tally memo frame is at played frame_is through kept way =
-    subst (λ (h : List Record). IsLeaving p.setting part h cursors tally memo frame) (sym is) (record {
-      played = played;
-      cursors_are = at;
-      frame_is = frame_is;
-      through = through;
-      memo_is = kept;
-      way = way;
     })

@@ -75,9 +75,7 @@ ArePlayed g played m = IsReached g m × (place_of g m ≡ played)
 
 pub played_none : (start m : MachineValue) (scripts : List (List Step)) (schedule : List ℕ) → m ≡ start
     → ArePlayed (setting start scripts) (take 0 schedule) m
-played_none start m scripts schedule is =
-    subst (ArePlayed (setting start scripts) []) (sym is)
-    (reached_start start scripts, start_place start scripts)
+played_none start m scripts schedule is = rw is (reached_start start scripts, start_place start scripts)
 
 -- one call more
 pub played_more : (g : Setting) (m n : MachineValue) (schedule : List ℕ) (at cpu : ℕ) → at < length schedule
@@ -123,8 +121,7 @@ filled_along g m schedule at cpu less is so_far full = (
   full.0,
   (
     drop (at + 1) schedule,
-    subst (λ (c : ℕ). schedule ≡ (place_of g m ++ c ∷ []) ++ drop (at + 1) schedule) (sym full.1)
-        (split_here g m schedule at cpu less is so_far
+    rw full.1 (split_here g m schedule at cpu less is so_far
         ∙ sym (append_assoc (place_of g m) (cpu ∷ []) (drop (at + 1) schedule))),
   ),
 )

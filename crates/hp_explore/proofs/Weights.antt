@@ -1,5 +1,5 @@
 -- A turn leaves less of a walk.
-use Rattle.std.proofs.Common.{◌≡◌, ℕ, suc, ◌+◌, ◌-◌, ◌*◌, ◌^◌, ◌<◌, ◌≤◌, List, ◌∷◌, length, ap, subst, sym, ◌∙◌, arith}
+use Rattle.std.proofs.Common.{◌≡◌, ℕ, suc, ◌+◌, ◌-◌, ◌*◌, ◌^◌, ◌<◌, ◌≤◌, List, ◌∷◌, length, ap, sym, ◌∙◌, arith}
 use Rattle.std.proofs.Math.Nat.{mul-lt-mul_of_pos_right, one-le-pow, pow-suc}
 use Rattle.hp_explore.specs.Frames.{digits, left_of}
 use Rattle.hp_schedules.specs.Schedules.{Setting}
@@ -34,54 +34,37 @@ back_plain d n e p x t some power is digit =
 -- a processor asks for nothing
 pub left_passed : (n most : ℕ) (frames : List Level) (frame later : Level) → frame.next < n
     → later.next ≡ frame.next + 1 → left_of n most (later ∷ frames) < left_of n most (frame ∷ frames)
-left_passed n most frames frame later less is =
-    scaled (digits n (later ∷ frames)) (digits n (frame ∷ frames))
-    ((n + 2) ^ (most + 1 - suc (length frames)))
-    (omega (arith, is, less)) (some_power n (most + 1 - suc (length frames)))
+left_passed n most frames frame later less is = grind (arith, scaled, some_power)
 
 -- a processor leads on: so much is left with its place still to come
 pub led_left : (n most : ℕ) (frames : List Level) (frame later : Level) → frame.next < n
     → later.next ≡ frame.next + 1
     → (digits n (later ∷ frames) + 1) * (n + 2) ^ (most + 1 - length (later ∷ frames))
     ≡ left_of n most (frame ∷ frames)
-led_left n most frames frame later less is =
-    let digit : digits n (later ∷ frames) + 1 ≡ digits n (frame ∷ frames) = omega (arith, is, less) in
-    ap (λ (d : ℕ). d * (n + 2) ^ (most + 1 - suc (length frames))) digit
+led_left n most frames frame later less is = grind arith
 
 -- and less once its place was come to
 pub left_led : (n : ℕ) (g h : Setting) (frames all : List Level) (frame later : Level) (after : ℕ)
     → h ≡ g → all ≡ later ∷ frames → frame.next < n → later.next ≡ frame.next + 1
     → after < (digits n all + 1) * (n + 2) ^ (h.layout.history + 1 - length all)
     → after < left_of n g.layout.history (frame ∷ frames)
-left_led n g h frames all frame later after same pushed less is so_far =
-    subst (λ (k : ℕ). after < k)
-    (ap (λ (x : Setting). (digits n all + 1) * (n + 2) ^ (x.layout.history + 1 - length all)) same
-    ∙ (ap (λ (fs : List Level). (digits n fs + 1) * (n + 2) ^ (g.layout.history + 1 - length fs)) pushed
-    ∙ led_left n g.layout.history frames frame later less is))
-    so_far
+left_led n g h frames all frame later after same pushed less is so_far = grind (arith, led_left)
 
 -- the place gets its frame
 pub left_opened : (n most : ℕ) (frames : List Level) (frame : Level) → frame.next ≡ 0
     → length frames ≤ most
     → left_of n most (frame ∷ frames) < (digits n frames + 1) * (n + 2) ^ (most + 1 - length frames)
-left_opened n most frames frame zero le =
-    opened_plain (digits n frames) n ((n + 2) ^ (most + 1 - suc (length frames)))
-    ((n + 2) ^ (most + 1 - length frames)) (digits n (frame ∷ frames))
-    (some_power n (most + 1 - suc (length frames))) (next_power n most (length frames) le)
-    (omega (arith, zero))
+left_opened n most frames frame zero le = grind (arith, opened_plain, some_power, next_power)
 
 -- or is left at once
 pub left_counted : (n most : ℕ) (frames : List Level)
     → left_of n most frames < (digits n frames + 1) * (n + 2) ^ (most + 1 - length frames)
-left_counted n most frames =
-    scaled (digits n frames) (digits n frames + 1) ((n + 2) ^ (most + 1 - length frames)) (omega arith)
-    (some_power n (most + 1 - length frames))
+left_counted n most frames = scaled _ _ _ (omega arith) (some_power n (most + 1 - length frames))
 
 -- a place is left
 pub left_back : (n most : ℕ) (frames : List Level) (frame : Level) → frame.next ≤ n → length frames ≤ most
     → left_of n most frames < left_of n most (frame ∷ frames)
 left_back n most frames frame within le =
-    back_plain (digits n frames) n ((n + 2) ^ (most + 1 - suc (length frames)))
-    ((n + 2) ^ (most + 1 - length frames)) (digits n (frame ∷ frames)) (n + 1 - frame.next)
+    back_plain (digits n frames) n _ _ _ (n + 1 - frame.next)
     (some_power n (most + 1 - suc (length frames))) (next_power n most (length frames) le) (omega arith)
     (omega arith)

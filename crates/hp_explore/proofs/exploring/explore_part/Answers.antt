@@ -1,14 +1,12 @@
 -- The walk begins where the machine stands with no ends, and ends with all, or with the first ones.
-use Rattle.std.proofs.Common.{[], ◌≡◌, ◌⊎◌, ℕ, Bool, true, false, List, ap, sym, subst, ◌∙◌, arith, inl, inr}
+use Rattle.std.proofs.Common.{[], ◌≡◌, ◌⊎◌, ℕ, Bool, true, false, List, ap, ◌∙◌, arith, inl, inr}
 use Rattle.std.specs.Prelude.{sum_by}
 use Rattle.std.proofs.lemmas.Result.{err_from_is_err_and}
-use Rattle.hp_schedules.specs.Ends.{AreCounted, AreInOrder}
-use Rattle.hp_schedules.specs.Parts.{EndsInPart, IsCompleteInPart, PartValue}
+use Rattle.hp_schedules.specs.Ends.{AreInOrder}
+use Rattle.hp_schedules.specs.Parts.{IsCompleteInPart}
 use Rattle.hp_explore.specs.Faults.{IsCausePartWithin}
 use Rattle.hp_explore.specs.Frames.{IsDone, IsEndedBy}
 use Rattle.hp_explore.specs.Fronts.{AreFirstInPart, counted}
-use Rattle.hp_schedules.specs.Orders.{HasMoreThan}
-use Rattle.hp_schedules.specs.Schedules.{Setting}
 use Rattle.hp_explore.specs.Settings.{setting}
 use Rattle.hp_states.specs.Walks.{IsPartWalkedThrough}
 use Rattle.hp_schedules.specs.declared.tally.Ending.{Ending}
@@ -19,24 +17,25 @@ use Rattle.hp_schedules.proofs.Uniqueness.{no_more}
 use Rattle.hp_explore.proofs.Walking.{first_exceed}
 use Rattle.hp_explore.proofs.exploring.explore_part.Given.{Over}
 use Rattle.hp_explore.proofs.exploring.explore_part.Goals as goal
-use Rattle.hp_explore.proofs.exploring.explore_part.Goals.{In_err-is_whole}
+use Rattle.hp_explore.proofs.exploring.explore_part.Goals.{In_err-is_whole, In_ok-is_whole}
 
 -- all is walked, from where the machine stands
-whole : (w : Walk) (g : Setting) (part : PartValue) (is_whole : Bool) → w.path.setting ≡ g → w.part ≡ part
-    → IsDone w is_whole → is_whole ≡ true → IsPartWalkedThrough g part [] w.tally.ends
-whole w g part true same this done all =
-    subst (λ (k : PartValue). IsPartWalkedThrough g k [] w.tally.ends) this
-    (subst (λ (h : Setting). IsPartWalkedThrough h w.part [] w.tally.ends) same done)
-whole w g part false same this done all = absurd cc
+whole : (o : Over) (c : In_ok-is_whole o) → c.in_ok-is_whole.is_whole ≡ true
+    → IsPartWalkedThrough (setting c.args.machine.now c.args.scripts.now) c.args.part []
+    c.run.new.self.tally.ends
+whole o c all =
+    let same = c.in_ok-is_whole.ensures.same in
+    rw (same.0, c.in_ok-walk.ensures.setting, same.2, c.in_ok-walk.ensures.part) at
+    (rw all at c.in_ok-is_whole.ensures.done)
 
 -- or the first ones are counted
-first : (w : Walk) (g : Setting) (part : PartValue) (is_whole : Bool) → w.path.setting ≡ g
-    → w.part ≡ part → IsDone w is_whole → is_whole ≡ false
-    → AreFirstInPart g part (counted w.tally.ends) w.tally.ends
-first w g part true same this done some = absurd cc
-first w g part false same this done some =
-    subst (λ (k : PartValue). AreFirstInPart g k (counted w.tally.ends) w.tally.ends) this
-    (subst (λ (h : Setting). AreFirstInPart h w.part (counted w.tally.ends) w.tally.ends) same done.first)
+first : (o : Over) (c : In_ok-is_whole o) → c.in_ok-is_whole.is_whole ≡ false
+    → AreFirstInPart (setting c.args.machine.now c.args.scripts.now) c.args.part
+    (counted c.run.new.self.tally.ends) c.run.new.self.tally.ends
+first o c some =
+    let same = c.in_ok-is_whole.ensures.same in
+    let halted = rw some at c.in_ok-is_whole.ensures.done in
+    rw (same.0, c.in_ok-walk.ensures.setting, same.2, c.in_ok-walk.ensures.part) at halted.first
 
 -- which are as many as the limit, or the watch ended the walk
 stopped : (w : Walk) (limit : ℕ) (ended : Type 0) (is_whole : Bool) → w.tally.limit ≡ limit
@@ -54,57 +53,42 @@ ordered w false done = done.first.walked.ordered
 
 pub returns-clause-ok : goal.returns-clause-ok
 returns-clause-ok o c =
-    let g = setting c.args.machine.now c.args.scripts.now in
-    λ all. subst (AreCounted (EndsInPart g c.args.part)) (sym c.into_ends.ensures.is)
-    (walk_ends g c.args.part c.run.new.self.tally.ends (whole c.run.new.self g c.args.part
-    c.in_ok-is_whole.is_whole
-    (c.in_ok-is_whole.ensures.same.0 ∙ c.in_ok-walk.ensures.setting)
-    (c.in_ok-is_whole.ensures.same.2 ∙ c.in_ok-walk.ensures.part) c.in_ok-is_whole.ensures.done all).counted)
+    let here = (goal.at.returns-clause-ok o c).In_ok-is_whole in
+    λ all. rw c.into_ends.ensures.is
+    (walk_ends (setting c.args.machine.now c.args.scripts.now) c.args.part c.run.new.self.tally.ends
+    (whole o here all).counted)
 
 pub returns-clause-few : goal.returns-clause-few
 returns-clause-few o c =
     let g = setting c.args.machine.now c.args.scripts.now in
+    let here = (goal.at.returns-clause-few o c).In_ok-is_whole in
     λ all more. no_more (IsCompleteInPart g c.args.part)
     (sum_by (λ (e : Ending). e.count) c.run.new.self.tally.ends) c.args.limit
     (omega (arith, c.into_ends.ensures.within, c.in_ok-is_whole.ensures.same.1, c.in_ok-walk.ensures.limit))
-    (walk_ends g c.args.part c.run.new.self.tally.ends (whole c.run.new.self g c.args.part
-    c.in_ok-is_whole.is_whole
-    (c.in_ok-is_whole.ensures.same.0 ∙ c.in_ok-walk.ensures.setting)
-    (c.in_ok-is_whole.ensures.same.2 ∙ c.in_ok-walk.ensures.part) c.in_ok-is_whole.ensures.done
-    all).counted).total more
+    (walk_ends g c.args.part c.run.new.self.tally.ends (whole o here all).counted).total more
 
 pub returns-clause-room : goal.returns-clause-room
 returns-clause-room o c =
-    let g = setting c.args.machine.now c.args.scripts.now in
-    λ all fills. none_fills g c.args.part c.run.new.self.tally.ends (whole c.run.new.self g c.args.part
-    c.in_ok-is_whole.is_whole
-    (c.in_ok-is_whole.ensures.same.0 ∙ c.in_ok-walk.ensures.setting)
-    (c.in_ok-is_whole.ensures.same.2 ∙ c.in_ok-walk.ensures.part) c.in_ok-is_whole.ensures.done all) fills
+    let here = (goal.at.returns-clause-room o c).In_ok-is_whole in
+    λ all. none_fills (setting c.args.machine.now c.args.scripts.now) c.args.part c.run.new.self.tally.ends
+    (whole o here all)
 
 pub returns-clause-first : goal.returns-clause-first
 returns-clause-first o c =
-    let g = setting c.args.machine.now c.args.scripts.now in
-    λ some. subst (λ (ends : List Ending). AreFirstInPart g c.args.part (counted ends) ends)
-    (sym c.into_ends.ensures.is)
-    (first c.run.new.self g c.args.part c.in_ok-is_whole.is_whole
-    (c.in_ok-is_whole.ensures.same.0 ∙ c.in_ok-walk.ensures.setting)
-    (c.in_ok-is_whole.ensures.same.2 ∙ c.in_ok-walk.ensures.part) c.in_ok-is_whole.ensures.done some)
+    let here = (goal.at.returns-clause-first o c).In_ok-is_whole in
+    λ some. rw c.into_ends.ensures.is (first o here some)
 
 pub returns-clause-many : goal.returns-clause-many
 returns-clause-many o c =
-    let g = setting c.args.machine.now c.args.scripts.now in
-    λ some. subst (λ (ends : List Ending). HasMoreThan (IsCompleteInPart g c.args.part) (counted ends))
-    (sym c.into_ends.ensures.is)
-    (first_exceed g c.args.part (counted c.run.new.self.tally.ends) c.run.new.self.tally.ends
-    (first c.run.new.self g c.args.part c.in_ok-is_whole.is_whole
-    (c.in_ok-is_whole.ensures.same.0 ∙ c.in_ok-walk.ensures.setting)
-    (c.in_ok-is_whole.ensures.same.2 ∙ c.in_ok-walk.ensures.part) c.in_ok-is_whole.ensures.done some))
+    let here = (goal.at.returns-clause-many o c).In_ok-is_whole in
+    λ some. rw c.into_ends.ensures.is
+    (first_exceed (setting c.args.machine.now c.args.scripts.now) c.args.part
+    (counted c.run.new.self.tally.ends) c.run.new.self.tally.ends (first o here some))
 
 pub returns-clause-stopped : goal.returns-clause-stopped
 returns-clause-stopped o c =
-    λ some. subst (λ (ends : List Ending).
-    (counted ends ≡ c.args.limit) ⊎ o.W.Watch.has_ended c.run.new.watch) (sym c.into_ends.ensures.is)
-    (stopped c.run.new.self c.args.limit (o.W.Watch.has_ended c.run.new.watch) c.in_ok-is_whole.is_whole
+    λ some. rw c.into_ends.ensures.is (stopped c.run.new.self c.args.limit (o.W.Watch.has_ended
+    c.run.new.watch) c.in_ok-is_whole.is_whole
     (c.in_ok-is_whole.ensures.same.1 ∙ c.in_ok-walk.ensures.limit) c.in_ok-is_whole.ensures.ended
     c.in_ok-is_whole.ensures.done some)
 
@@ -120,8 +104,7 @@ returns-clause-within o c =
 
 pub returns-clause-ordered : goal.returns-clause-ordered
 returns-clause-ordered o c =
-    subst AreInOrder (sym c.into_ends.ensures.is)
-    (ordered c.run.new.self c.in_ok-is_whole.is_whole c.in_ok-is_whole.ensures.done)
+    rw c.into_ends.ensures.is (ordered c.run.new.self c.in_ok-is_whole.is_whole c.in_ok-is_whole.ensures.done)
 
 -- the walk began with the machine, the scripts, the part and the limit
 cause : (o : Over) (c : In_err-is_whole o)

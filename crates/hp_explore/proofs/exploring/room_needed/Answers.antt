@@ -16,6 +16,5 @@ returns-in-Some c =
 
 pub returns-in-None : goal.returns-in-None
 returns-in-None c =
-    λ one. let told : IsCallCount c.args.scripts.now None =
-    subst (IsCallCount c.args.scripts.now) c.in-None.is c.in_ok-calls.ensures in
+    λ one. let told : IsCallCount c.args.scripts.now None = rw c.in-None.is at c.in_ok-calls.ensures in
     omega (arith, told one)

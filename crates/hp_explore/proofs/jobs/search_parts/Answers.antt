@@ -1,7 +1,6 @@
 -- The lists are those of all parts.
-use Rattle.std.proofs.Common.{◌<◌, List, Vec, Global, length, map, arith, subst, sym}
+use Rattle.std.proofs.Common.{◌<◌, length, map, arith}
 use Rattle.hp_explore.specs.Settings.{setting}
-use Rattle.hp_schedules.specs.declared.tally.Ending.{Ending}
 use Rattle.hp_explore.specs.Sums.{AreParts}
 use Rattle.hp_explore.proofs.Searched.{room_for_all}
 use Rattle.hp_explore.proofs.Totals.{items}
@@ -9,15 +8,11 @@ use Rattle.hp_explore.proofs.jobs.search_parts.Goals as goal
 use Rattle.hp_explore.proofs.jobs.search_parts.Goals.{After-sum}
 
 some : (g : _) (c : After-sum g) → 0 < length c.as_slice.result.now
-some g c =
-    subst (λ (xs : List (Vec Ending Global)). 0 < length xs) (sym c.as_slice.ensures.value)
-    (omega (arith, c.in_ok-lists.ensures.len, c.requires.some))
+some g c = rw c.as_slice.ensures.value (omega (arith, c.in_ok-lists.ensures.len, c.requires.some))
 
 parts : (g : _) (c : After-sum g) → AreParts (setting c.args.machine.now c.args.scripts.now)
     c.calls_for-calls.result (map items c.as_slice.result.now)
-parts g c =
-    subst (λ (xs : List (Vec Ending Global)). AreParts (setting c.args.machine.now c.args.scripts.now)
-    c.calls_for-calls.result (map items xs)) (sym c.as_slice.ensures.value) c.in_ok-lists.ensures.ends
+parts g c = rw c.as_slice.ensures.value c.in_ok-lists.ensures.ends
 
 pub returns-in-Ok-clause-ends : goal.returns-in-Ok-clause-ends
 returns-in-Ok-clause-ends g c =

@@ -11,11 +11,7 @@ one_more : (own : ℕ → ℕ) (cpu op : ℕ) (start old new : List ℕ) → new
     → old ≡ start ++ map own (range_with_len 0 cpu) → op ≡ own cpu
     → new ≡ start ++ map own (range_with_len 0 (cpu + 1))
 one_more own cpu op start old new pushed so_far last =
-    pushed
-    ∙ (ap (λ (ops : List ℕ). ops ++ op ∷ []) so_far
-    ∙ (append_assoc start (map own (range_with_len 0 cpu)) (op ∷ [])
-    ∙ (ap (λ (n : ℕ). start ++ (map own (range_with_len 0 cpu) ++ n ∷ [])) last
-    ∙ ap (λ (more : List ℕ). start ++ more) (sym (map-range_with_len_more own 0 cpu cpu (omega arith))))))
+    rw (pushed, so_far, append_assoc, last, ← map-range_with_len_more own 0 cpu cpu (omega arith))
 
 pub loop-cpu-init : goal.loop-cpu-init
 loop-cpu-init c = λ g news at. sym (append-nil c.args.ops.now.items)

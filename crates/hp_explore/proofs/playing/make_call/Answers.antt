@@ -1,12 +1,9 @@
 -- The machine after the call is one call further.
-use Rattle.std.proofs.Common.{◌≡◌, ◌∷◌, ◌++◌, ◌<◌, [], List, ℕ, Err, None, Some, ap, arith, length, refl, subst, sym, ◌∙◌}
+use Rattle.std.proofs.Common.{◌≡◌, ◌∷◌, ◌++◌, ◌<◌, [], ℕ, Err, Some, ap, arith, length, refl, subst, sym, ◌∙◌}
 use Rattle.hp_units.specs.LayoutParts.{LayoutParts}
 use Rattle.hp_units.specs.declared.replies.CallFault.{CallFault}
 use Rattle.hp_units.specs.declared.replies.CallFault.TheVariants.{HistoryFull}
-use Rattle.hp_units.specs.declared.replies.Record.{Record}
-use Rattle.hp_schedules.specs.Cursors.{AreCursors, IsCalledFor}
-use Rattle.hp_explore.specs.Faults.{IsCause}
-use Rattle.hp_schedules.specs.Schedules.{next_call}
+use Rattle.hp_schedules.specs.Cursors.{IsCalledFor}
 use Rattle.hp_explore.specs.Settings.{setting}
 use Rattle.hp_explore.specs.Walks.{news_in}
 use Rattle.hp_explore.proofs.Paths.{called_there}
@@ -20,12 +17,8 @@ called : (c : In-Some)
     → IsCalledFor (setting c.args.start.now c.args.scripts.now) c.args.cpu
     (news_in (setting c.args.start.now c.args.scripts.now) c.args.played.now) (Some c.in-Some.request)
 called c =
-    subst (λ (cpu : ℕ). IsCalledFor (setting c.args.start.now c.args.scripts.now) cpu
-    (news_in (setting c.args.start.now c.args.scripts.now) c.args.played.now) (Some c.in-Some.request))
-    c.cpu.view_is
-    (subst (IsCalledFor (setting c.args.start.now c.args.scripts.now) _
-    (news_in (setting c.args.start.now c.args.scripts.now) c.args.played.now)) c.in-Some.is
-    (called_there (setting c.args.start.now c.args.scripts.now) _ c.news_since-news.result.now
+    rw (← c.cpu.view_is) (rw c.in-Some.is at (called_there (setting c.args.start.now c.args.scripts.now) _
+    c.news_since-news.result.now
     (news_in (setting c.args.start.now c.args.scripts.now) c.args.played.now)
     c.args.positions.now.cursors.items _ c.news_since-news.ensures
     (c.in_ok-request.ensures (setting c.args.start.now c.args.scripts.now) refl
@@ -58,8 +51,7 @@ go_on-requires-clause-whose c =
 
 pub go_on-requires-clause-scripts : goal.go_on-requires-clause-scripts
 go_on-requires-clause-scripts c =
-    subst (λ (k : ℕ). k < length c.args.scripts.now) (sym c.cpu-in-Some.view_is)
-    (within (goal.at.go_on-requires-clause-scripts c).In-Some)
+    rw c.cpu-in-Some.view_is (within (goal.at.go_on-requires-clause-scripts c).In-Some)
 
 pub go_on-requires-clause-cursors : goal.go_on-requires-clause-cursors
 go_on-requires-clause-cursors c =
@@ -69,12 +61,10 @@ go_on-requires-clause-cursors c =
 pub returns-in-Ok-clause-cursors : goal.returns-in-Ok-clause-cursors
 returns-in-Ok-clause-cursors c =
     let g = setting c.args.start.now c.args.scripts.now in
-    subst (λ (h : List Record). AreCursors g h c.go_on.new.self.cursors.items)
-    (sym (whose (goal.at.returns-in-Ok-clause-cursors c).After-latest).1)
-    (c.go_on.ensures.later g (news_in g c.args.played.now) refl
+    rw ((whose (goal.at.returns-in-Ok-clause-cursors c).After-latest).1) (c.go_on.ensures.later g (news_in g
+    c.args.played.now) refl
     (sym (c.cpus-cpus.ensures.is ∙ ap (λ (l : LayoutParts). l.cpus) c.layout.ensures)) c.requires.cursors
-    (subst (λ (k : ℕ). IsCalledFor g k (news_in g c.args.played.now) (Some c.in-Some.request))
-    (sym c.cpu-in-Some.view_is) (called (goal.at.returns-in-Ok-clause-cursors c).In-Some)))
+    (rw c.cpu-in-Some.view_is (called (goal.at.returns-in-Ok-clause-cursors c).In-Some)))
 
 pub returns-in-Ok-clause-ok : goal.returns-in-Ok-clause-ok
 returns-in-Ok-clause-ok c =
@@ -87,8 +77,7 @@ returns-in-Ok-clause-ok c =
 pub returns-in-Some-clause-err : goal.returns-in-Some-clause-err
 returns-in-Some-clause-err c =
     let g = setting c.args.start.now c.args.scripts.now in
-    subst (IsCause g) (sym c.from.ensures)
-    (call_cause g c.args.played.now c.args.cpu c.in-Err.fault
+    rw c.from.ensures (call_cause g c.args.played.now c.args.cpu c.in-Err.fault
     (λ full. fills_here g c.args.played.now c.args.cpu c.in-Some.request.event c.requires.reached
     (called (goal.at.returns-in-Some-clause-err c).In-Some).0
     (c.answer.ensures.full.0 (c.in-Err.is ∙ ap (λ (f : CallFault). Err f) full))))
@@ -103,11 +92,8 @@ returns-in-Some-clause-full c =
 
 pub returns-clause-ok : goal.returns-clause-ok
 returns-clause-ok c = (
-  subst (λ (cpu : ℕ). next_call (setting c.args.start.now c.args.scripts.now) cpu
-      (news_in (setting c.args.start.now c.args.scripts.now) c.args.played.now) ≡ None) c.cpu.view_is
-      (subst (IsCalledFor (setting c.args.start.now c.args.scripts.now) _
-      (news_in (setting c.args.start.now c.args.scripts.now) c.args.played.now)) c.in-None.is
-      (called_there (setting c.args.start.now c.args.scripts.now) _ c.news_since-news.result.now
+  rw (← c.cpu.view_is) (rw c.in-None.is at (called_there (setting c.args.start.now c.args.scripts.now) _
+      c.news_since-news.result.now
       (news_in (setting c.args.start.now c.args.scripts.now) c.args.played.now)
       c.args.positions.now.cursors.items _ c.news_since-news.ensures
       (c.in_ok-request.ensures (setting c.args.start.now c.args.scripts.now) refl
@@ -115,9 +101,3 @@ returns-clause-ok c = (
       c.requires.cursors)),
   refl,
 )
-
-pub returns-clause-err : goal.returns-clause-err
-returns-clause-err c = tt
-
-pub returns-clause-full : goal.returns-clause-full
-returns-clause-full c = tt

@@ -1,12 +1,10 @@
 -- One call more in each turn of the loop, or one that is not asked for.
 use Rattle.hp_explore.specs.Settings.{setting}
-use Rattle.hp_explore.specs.Walks.{IsMade, news_in}
-use Rattle.std.proofs.Common.{◌≡◌, ◌∙◌, [], Bool, List, ap, arith, drop, length, refl, subst, sym}
+use Rattle.hp_explore.specs.Walks.{news_in}
+use Rattle.std.proofs.Common.{◌≡◌, ◌∙◌, [], ap, arith, drop, length, refl, sym}
 use Rattle.std.proofs.Math.Seq.{drop-length}
 use Rattle.hp_machine.specs.Machine.{MachineValue}
 use Rattle.hp_units.specs.LayoutParts.{LayoutParts}
-use Rattle.hp_units.specs.declared.replies.Record.{Record}
-use Rattle.hp_schedules.specs.Cursors.{AreCursors}
 use Rattle.std.proofs.lemmas.Result.{err_from_is_err_and}
 use Rattle.hp_explore.proofs.Walking.{filled_along, played_all, played_more, played_none, played_over}
 use Rattle.hp_explore.proofs.playing.play.Goals as goal
@@ -18,26 +16,15 @@ loop-cpu-init c =
     ∙ drop-length c.args.machine.now.history in (
       played_none c.args.machine.now c.in_ok-played.played c.args.scripts.now c.args.schedule.now
           c.in_ok-played.ensures,
-      subst (λ (h : List Record). AreCursors (setting c.args.machine.now c.args.scripts.now) h
-          c.in_ok-positions.positions.cursors.items) (sym none)
-          (c.in_ok-positions.ensures.begun (setting c.args.machine.now c.args.scripts.now) refl
+      rw none (c.in_ok-positions.ensures.begun (setting c.args.machine.now c.args.scripts.now) refl
           (sym (c.cpus.ensures.is ∙ ap (λ (l : LayoutParts). l.cpus) c.layout.ensures))),
     )
-
-pub make_call-requires-clause-reached : goal.make_call-requires-clause-reached
-make_call-requires-clause-reached c = c.loop-cpu.invariant.0.0
-
-pub make_call-requires-clause-cursors : goal.make_call-requires-clause-cursors
-make_call-requires-clause-cursors c = c.loop-cpu.invariant.1
 
 pub loop-cpu-preserved : goal.loop-cpu-preserved
 loop-cpu-preserved c =
     let made =
-    subst (λ (b : Bool). IsMade (setting c.args.machine.now c.args.scripts.now) c.loop-cpu.played
-    c.cpu-item.result b c.make_call.new.played) c.if-not-branch.false c.in_ok-make_call.ensures.ok in (
-      played_more (setting c.args.machine.now c.args.scripts.now) c.loop-cpu.played c.make_call.new.played
-          c.args.schedule.now c.loop-cpu.cpu-index c.cpu-item.result c.loop-cpu-test.true c.cpu-item.is
-          c.loop-cpu.invariant.0 made,
+    rw c.if-not-branch.false at c.in_ok-make_call.ensures.ok in (
+      played_more _ _ _ _ _ _ c.loop-cpu-test.true c.cpu-item.is c.loop-cpu.invariant.0 made,
       c.in_ok-make_call.ensures.cursors,
     )
 
@@ -48,11 +35,8 @@ returns-clause-ok c =
 
 pub returns-then-not-branch-clause-ok : goal.returns-then-not-branch-clause-ok
 returns-then-not-branch-clause-ok c =
-    let made =
-    subst (λ (b : Bool). IsMade (setting c.args.machine.now c.args.scripts.now) c.loop-cpu.played
-    c.cpu-item.result b c.make_call.new.played) c.if-not-branch.true c.in_ok-make_call.ensures.ok in
-    played_over (setting c.args.machine.now c.args.scripts.now) c.loop-cpu.played c.args.schedule.now
-    c.loop-cpu.cpu-index c.cpu-item.result c.loop-cpu-test.true c.cpu-item.is c.loop-cpu.invariant.0 made.0
+    let made = rw c.if-not-branch.true at c.in_ok-make_call.ensures.ok in
+    played_over _ _ _ _ _ c.loop-cpu-test.true c.cpu-item.is c.loop-cpu.invariant.0 made.0
 
 pub returns-in_err-make_call-clause-along : goal.returns-in_err-make_call-clause-along
 returns-in_err-make_call-clause-along c =
@@ -60,6 +44,5 @@ returns-in_err-make_call-clause-along c =
     err_from_is_err_and c.from_residual-in_err-make_call.result c.from_residual-in_err-make_call.ensures.1 in
     rw (p.1, p.2)
     (λ full.
-    filled_along (setting c.args.machine.now c.args.scripts.now) c.loop-cpu.played c.args.schedule.now
-    c.loop-cpu.cpu-index c.cpu-item.result c.loop-cpu-test.true c.cpu-item.is c.loop-cpu.invariant.0
+    filled_along _ _ _ _ _ c.loop-cpu-test.true c.cpu-item.is c.loop-cpu.invariant.0
     (c.in_err-make_call.ensures.full full))

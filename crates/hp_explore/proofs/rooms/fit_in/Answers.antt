@@ -1,15 +1,12 @@
 -- All of them are taken from the room, or one is more than what is left.
-use Rattle.std.proofs.Common.{◌≡◌, ◌+◌, ◌<◌, List, subst, arith}
-use Rattle.std.specs.Prelude.{sum_by}
-use Rattle.hp_schedules.specs.declared.tally.Ending.{Ending}
+use Rattle.std.proofs.Common.{◌≡◌, ◌+◌, ◌<◌, arith}
 use Rattle.hp_explore.proofs.Totals.{counted_in, counted_mapped, items, left_more, none_left}
 use Rattle.hp_explore.proofs.rooms.fit_in.Goals as goal
 
 pub loop-ends-preserved : goal.loop-ends-preserved
 loop-ends-preserved c =
     let told : counted_in items c.ends-item.result + c.in-Some.less ≡ c.loop-ends.left =
-    subst (λ (xs : List Ending). sum_by (λ (e : Ending). e.count) xs + c.in-Some.less ≡ c.loop-ends.left)
-    c.as_slice.ensures.value c.in-Some.ensures.some in
+    rw c.as_slice.ensures.value at c.in-Some.ensures.some in
     record {
       so_far =
           left_more (counted_in items) c.args.lists.now c.args.room c.loop-ends.left c.in-Some.less
@@ -21,8 +18,7 @@ pub returns-in-None : goal.returns-in-None
 returns-in-None c = (
   λ told. absurd cc,
   λ fits. absurd (let more : c.loop-ends.left < counted_in items c.ends-item.result =
-      subst (λ (xs : List Ending). c.loop-ends.left < sum_by (λ (e : Ending). e.count) xs)
-      c.as_slice.ensures.value c.in-None.ensures.none in
+      rw c.as_slice.ensures.value at c.in-None.ensures.none in
       omega (
         arith,
         fits,

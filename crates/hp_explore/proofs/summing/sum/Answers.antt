@@ -1,5 +1,5 @@
 -- The ends of all lists are added to none, and sorted.
-use Rattle.std.proofs.Common.{◌<◌, [], List, length, map, arith, subst}
+use Rattle.std.proofs.Common.{◌<◌, [], length, map, arith}
 use Rattle.std.proofs.lemmas.List.{length-map}
 use Rattle.std.proofs.lemmas.List.Sorted.{sum_by-IsPermutation}
 use Rattle.hp_schedules.specs.Ends.{AreCounted}
@@ -15,9 +15,7 @@ use Rattle.hp_explore.proofs.summing.sum.Goals as goal
 use Rattle.hp_explore.proofs.summing.sum.Goals.{After-into_sorted}
 
 added : (c : After-into_sorted) → AddsLists [] (map items c.args.parts.now) c.add_lists.new.self
-added c =
-    subst (λ (old : List Ending). AddsLists old (map items c.args.parts.now) c.add_lists.new.self)
-    c.new-sums.ensures c.in_ok-add_lists.ensures
+added c = rw c.new-sums.ensures at c.in_ok-add_lists.ensures
 
 -- those of all parts
 all : (c : After-into_sorted) (g : Setting) (calls : _) → 0 < length c.args.parts.now

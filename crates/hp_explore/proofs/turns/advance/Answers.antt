@@ -1,5 +1,5 @@
 -- The call was made, and its turn leads back; or the script asks for nothing.
-use Rattle.std.proofs.Common.{◌≡◌, ◌∷◌, ◌++◌, ◌<◌, ◌∙◌, [], List, Some, ap, arith, length, refl, subst, sym}
+use Rattle.std.proofs.Common.{◌≡◌, ◌∷◌, ◌++◌, ◌<◌, ◌∙◌, [], List, Some, ap, arith, length, refl, sym}
 use Rattle.std.proofs.lemmas.List.{length_push}
 use Rattle.hp_units.specs.LayoutParts.{LayoutParts}
 use Rattle.hp_schedules.specs.Cursors.{IsCalledFor}
@@ -16,9 +16,8 @@ called : (c : In-Some)
     → IsCalledFor (setting c.args.start.now c.args.scripts.now) c.args.cpu c.args.here.now.records
     (Some c.in-Some.request)
 called c =
-    subst (IsCalledFor (setting c.args.start.now c.args.scripts.now) c.args.cpu c.args.here.now.records)
-    c.in-Some.is
-    (called_there (setting c.args.start.now c.args.scripts.now) c.args.cpu c.records-news.result.now
+    rw c.in-Some.is at (called_there (setting c.args.start.now c.args.scripts.now) c.args.cpu
+    c.records-news.result.now
     c.args.here.now.records c.args.positions.now.cursors.items _ c.records-news.ensures
     (c.in_ok-request.ensures (setting c.args.start.now c.args.scripts.now) refl
     (sym (c.cpus-cpus.ensures.is ∙ ap (λ (l : LayoutParts). l.cpus) c.layout.ensures))) c.requires.cursors)
@@ -38,9 +37,6 @@ whose c =
     c.args.cpu c.in-Some.request.event c.in_ok-way-in-Some.way c.latest.result.now
     c.in_ok-way-in-Some.ensures.ok
     (λ before r is. c.latest.ensures before r (c.records.ensures ∙ is))
-
-pub request-requires : goal.request-requires
-request-requires c = c.requires.cursors.many
 
 pub make_turn-requires-clause-asked : goal.make_turn-requires-clause-asked
 make_turn-requires-clause-asked c = (called (goal.at.make_turn-requires-clause-asked c).In-Some).0
@@ -93,9 +89,8 @@ returns-in_ok-way-in-Some-clause-ok c =
 
 pub returns-in-None-clause-ok : goal.returns-in-None-clause-ok
 returns-in-None-clause-ok c = (
-  subst (IsCalledFor (setting c.args.start.now c.args.scripts.now) c.args.cpu c.args.here.now.records)
-      c.in-None.is
-      (called_there (setting c.args.start.now c.args.scripts.now) c.args.cpu c.records-news.result.now
+  rw c.in-None.is at (called_there (setting c.args.start.now c.args.scripts.now) c.args.cpu
+      c.records-news.result.now
       c.args.here.now.records c.args.positions.now.cursors.items _ c.records-news.ensures
       (c.in_ok-request.ensures (setting c.args.start.now c.args.scripts.now) refl
       (sym (c.cpus-cpus.ensures.is ∙ ap (λ (l : LayoutParts). l.cpus) c.layout.ensures))) c.requires.cursors),
@@ -103,9 +98,3 @@ returns-in-None-clause-ok c = (
   refl,
   c.in_ok-reserve.ensures.items,
 )
-
-pub returns-in-None-clause-err : goal.returns-in-None-clause-err
-returns-in-None-clause-err c = tt
-
-pub returns-in-None-clause-cause : goal.returns-in-None-clause-cause
-returns-in-None-clause-cause c = tt

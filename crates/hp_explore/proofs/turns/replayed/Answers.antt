@@ -1,12 +1,12 @@
 -- A call that has no room is one along the schedule that is played.
-use Rattle.std.proofs.Common.{◌≡◌, ◌++◌, ◌∷◌, [], List, ℕ, Some, ap, subst, ◌∙◌}
+use Rattle.std.proofs.Common.{◌≡◌, ◌++◌, ◌∷◌, [], List, ℕ, Some, ap, refl, ◌∙◌}
 use Rattle.std.proofs.lemmas.Result.{err_from_is_err_and}
-use Rattle.hp_explore.specs.Faults.{FillsAlong}
 use Rattle.hp_schedules.specs.Schedules.{schedule_of}
 use Rattle.hp_explore.specs.Settings.{setting}
 use Rattle.hp_explore.specs.Walks.{IsPlayed}
 use Rattle.hp_steps.specs.Steps.{StepsValue}
-use Rattle.hp_explore.proofs.Machines.{at_machine, no_fewer}
+use Rattle.hp_explore.proofs.Machines.{no_fewer}
+use Rattle.hp_explore.proofs.Stepped.{machine_at}
 use Rattle.hp_explore.proofs.turns.replayed.Goals as goal
 use Rattle.hp_explore.proofs.turns.replayed.Goals.{In-Some}
 
@@ -19,15 +19,12 @@ returns-in_err-machine-clause-along c =
     ∙ (c.push_reserved.ensures.items
     ∙ ap (λ (s : List ℕ). s ++ c.args.cpu ∷ []) (c.in_ok-reserve.ensures.items ∙ c.in_ok-schedule.ensures)) in
     rw (p.1, p.2)
-    (λ full. subst (FillsAlong (setting c.args.start.now c.args.scripts.now)) same
-    (c.in_err-machine.ensures.along full))
+    (λ full. rw same at (c.in_err-machine.ensures.along full))
 
 -- the machine is where the schedule leads to
 reached : (c : In-Some)
     → IsPlayed (setting c.args.start.now c.args.scripts.now) c.as_slice.result.now (Some c.in-Some.machine)
-reached c =
-    subst (IsPlayed (setting c.args.start.now c.args.scripts.now) c.as_slice.result.now) c.in-Some.is
-    c.in_ok-machine.ensures.ok
+reached c = rw c.in-Some.is at c.in_ok-machine.ensures.ok
 
 pub steps_of-requires : goal.steps_of-requires
 steps_of-requires c =
@@ -39,7 +36,7 @@ returns-in-Some-clause-ok c =
     let g = setting c.args.start.now c.args.scripts.now in
     let is = c.in_ok-steps_of-in-Some.ensures.value in
     let here = reached (goal.at.returns-in-Some-clause-ok c).In-Some in (
-      at_machine g c.in-Some.machine c.in_ok-steps_of-in-Some.field-0 here.0 c.steps_of.ensures.kept is,
+      rw is (machine_at g c.in-Some.machine _ here.0 c.steps_of.ensures.kept.state refl refl refl),
       ap (λ (p : StepsValue). schedule_of p.records) is
           ∙ (here.1 ∙ (c.as_slice.ensures.value
           ∙ (c.push_reserved.ensures.items

@@ -1,11 +1,8 @@
 -- An undo of steps that there are not leaves the state as it is.
-use Rattle.std.proofs.Common.{◌++◌, ◌∷◌, [], List, refl, subst}
+use Rattle.std.proofs.Common.{refl}
 use Rattle.std.proofs.lemmas.Result.{IfErr-weaker}
-use Rattle.hp_units.specs.declared.replies.Record.{Record}
 use Rattle.hp_units.specs.declared.replies.Refusal.TheVariants.{Gone}
 use Rattle.hp_units.specs.declared.replies.Reply.TheVariants.{Refused}
-use Rattle.hp_explore.specs.Faults.{FillsAlong}
-use Rattle.hp_schedules.specs.Schedules.{schedule_of}
 use Rattle.hp_explore.specs.Settings.{setting}
 use Rattle.hp_explore.proofs.Filled.{cause_along}
 use Rattle.hp_explore.proofs.Gone.{gone_leads}
@@ -24,6 +21,5 @@ returns-then-not-is_gone-clause-err c =
     IfErr-weaker c.replayed.result _ _
     (λ fault along. cause_along g c.args.here.now.records c.args.cpu c.args.event.now fault
     c.requires.at.played c.requires.asked
-    (λ full. subst (λ (h : List Record). FillsAlong g (schedule_of h ++ c.args.cpu ∷ [])) c.records.ensures
-    (along full)))
+    (λ full. rw c.records.ensures at (along full)))
     c.replayed.ensures.along

@@ -1,10 +1,7 @@
 -- The latest call is one that the script asked for.
-use Rattle.std.proofs.Common.{◌≡◌, ◌∷◌, ◌++◌, ◌==◌, [], List, Some, length, ap, refl, subst, sym, ◌∙◌}
+use Rattle.std.proofs.Common.{◌≡◌, ◌∷◌, ◌++◌, ◌==◌, [], List, length, ap, refl, ◌∙◌}
 use Rattle.hp_units.specs.declared.replies.Record.{Record}
-use Rattle.hp_schedules.specs.Cursors.{AreCursors}
 use Rattle.hp_schedules.specs.LineAnswers.{IsAnswered, answers_at}
-use Rattle.hp_schedules.specs.Schedules.{next_call, plays, schedule_of}
-use Rattle.hp_explore.specs.Paths.{PathValue}
 use Rattle.hp_explore.specs.Settings.{setting}
 use Rattle.hp_explore.proofs.Answered.{HasLatest, asked_latest, latest_asked, some_if}
 use Rattle.hp_explore.proofs.path.Path.answered.Goals as goal
@@ -40,19 +37,8 @@ answered_inside : (c : After-answered) (before : List Record) (r : Record)
 answered_inside c before r is =
     let g = setting c.self.inside.machine.now c.self.inside.scripts.now in
     let same : c.latest.result.now ≡ r = c.latest.ensures before r (c.records-records.ensures ∙ is) in
-    subst (λ (news : List Record). IsAnswered (answers_at g r.cpu before) c.answered.result
-    (answers_at g r.cpu news)) (sym is)
-    (subst (λ (x : Record). IsAnswered (answers_at g x.cpu before) c.answered.result
-    (answers_at g x.cpu (before ++ x ∷ []))) same
-    (c.answered.ensures g before refl
-    (subst (λ (x : Record). next_call g x.cpu before ≡ Some x.event) (sym same)
-    (asked_latest g before r
-    (subst (λ (h : List Record). plays g (schedule_of h) ≡ Some h) is c.self.invariant.at.played)))
-    (subst (λ (h : List Record). AreCursors g h c.self.inside.positions.cursors.items)
-    (is ∙ ap (λ (x : Record). before ++ x ∷ []) (sym same)) c.self.invariant.cursors_at)))
+    rw is (rw same at (c.answered.ensures g before refl (rw same (asked_latest g before r (rw is at
+    c.self.invariant.at.played))) (rw (same, ← is) c.self.invariant.cursors_at)))
 
 pub returns : goal.returns
-returns c =
-    subst (λ (p : PathValue). (before : List Record) (r : Record) → p.news ≡ before ++ r ∷ []
-    → IsAnswered (answers_at p.setting r.cpu before) c.answered.result (answers_at p.setting r.cpu p.news))
-    c.self.view_is (answered_inside c)
+returns c = rw (← c.self.view_is) (answered_inside c)

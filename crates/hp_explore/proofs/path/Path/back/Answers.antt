@@ -8,14 +8,9 @@ step_back-requires c = (setting c.self.inside.machine.now c.self.inside.scripts.
 
 pub invariant_of-self : goal.invariant_of-self
 invariant_of-self c =
-    path_taken (setting c.self.inside.machine.now c.self.inside.scripts.now) c.self.inside.here
-    c.step_back.new.here c.step_back.result c.step_back.new.positions.cursors.items
-    c.step_back.new.turns.items
-    (c.step_back.ensures (setting c.self.inside.machine.now c.self.inside.scripts.now) c.self.invariant)
+    path_taken _ c.self.inside.here _ c.step_back.result _ _ (c.step_back.ensures _ c.self.invariant)
 
 pub returns : goal.returns
 returns c =
-    back_shown (setting c.self.inside.machine.now c.self.inside.scripts.now) c.self.inside.here
-    c.step_back.new.here c.step_back.result c.step_back.new.positions.cursors.items
-    c.step_back.new.turns.items c.args.self.now c.self.view_is
-    (c.step_back.ensures (setting c.self.inside.machine.now c.self.inside.scripts.now) c.self.invariant)
+    back_shown _ c.self.inside.here _ c.step_back.result _ _ _ c.self.view_is
+    (c.step_back.ensures _ c.self.invariant)

@@ -1,9 +1,6 @@
 -- It is what the processor's script asks for from its cursor.
-use Rattle.std.proofs.Common.{◌≡◌, ◌∙◌, None, Some, ap, refl, subst, sym}
+use Rattle.std.proofs.Common.{◌∙◌, ap, refl, sym}
 use Rattle.hp_units.specs.LayoutParts.{LayoutParts}
-use Rattle.hp_schedules.specs.Cursors.{IsCalledFor}
-use Rattle.hp_explore.specs.Paths.{PathValue}
-use Rattle.hp_schedules.specs.Schedules.{next_call}
 use Rattle.hp_explore.specs.Settings.{setting}
 use Rattle.hp_explore.proofs.Paths.{called_there}
 use Rattle.hp_explore.proofs.path.Path.next_call.Goals as goal
@@ -15,10 +12,8 @@ pub returns-in-Some : goal.returns-in-Some
 returns-in-Some c =
     let g = setting c.self.inside.machine.now c.self.inside.scripts.now in
     let news = c.self.inside.here.records in
-    subst (λ (p : PathValue). next_call p.setting c.args.cpu p.news ≡ Some c.in-Some.request.event)
-    c.self.view_is
-    (subst (IsCalledFor g c.args.cpu news) c.in-Some.is
-    (called_there g c.args.cpu c.records-news.result.now news c.self.inside.positions.cursors.items _
+    rw (← c.self.view_is) (rw c.in-Some.is at (called_there g c.args.cpu c.records-news.result.now news
+    c.self.inside.positions.cursors.items _
     c.records-news.ensures
     (c.in_ok-request.ensures g refl
     (sym (c.cpus-cpus.ensures.is ∙ ap (λ (l : LayoutParts). l.cpus) c.layout.ensures)))
@@ -28,9 +23,8 @@ pub returns-in-None : goal.returns-in-None
 returns-in-None c =
     let g = setting c.self.inside.machine.now c.self.inside.scripts.now in
     let news = c.self.inside.here.records in
-    subst (λ (p : PathValue). next_call p.setting c.args.cpu p.news ≡ None) c.self.view_is
-    (subst (IsCalledFor g c.args.cpu news) c.in-None.is
-    (called_there g c.args.cpu c.records-news.result.now news c.self.inside.positions.cursors.items _
+    rw (← c.self.view_is) (rw c.in-None.is at (called_there g c.args.cpu c.records-news.result.now news
+    c.self.inside.positions.cursors.items _
     c.records-news.ensures
     (c.in_ok-request.ensures g refl
     (sym (c.cpus-cpus.ensures.is ∙ ap (λ (l : LayoutParts). l.cpus) c.layout.ensures)))

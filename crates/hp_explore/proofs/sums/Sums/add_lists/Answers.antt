@@ -1,16 +1,12 @@
 -- One list more.
-use Rattle.std.proofs.Common.{◌+◌, ◌<◌, ◌^◌, List, subst, sym}
-use Rattle.std.specs.Prelude.{sum_by}
-use Rattle.hp_schedules.specs.declared.tally.Ending.{Ending}
-use Rattle.hp_explore.specs.Adding.{AddsEnds}
+use Rattle.std.proofs.Common.{◌^◌}
 use Rattle.hp_explore.proofs.Totals.{items, lists_more, lists_room}
 use Rattle.hp_explore.proofs.sums.Sums.add_lists.Goals as goal
 
 pub add_ends-requires : goal.add_ends-requires
 add_ends-requires c =
-    subst (λ (xs : List Ending). sum_by (λ (e : Ending). e.count) c.loop-ends.self
-    + sum_by (λ (e : Ending). e.count) xs < 2 ^ 64) (sym c.as_slice.ensures.value)
-    (lists_room items c.args.lists.now c.args.self.now c.loop-ends.self c.loop-ends.ends-index (2 ^ 64)
+    rw c.as_slice.ensures.value (lists_room items c.args.lists.now c.args.self.now c.loop-ends.self
+    c.loop-ends.ends-index (2 ^ 64)
     c.ends-item.result c.loop-ends-test.true c.ends-item.is c.loop-ends.invariant.added c.requires)
 
 pub loop-ends-preserved : goal.loop-ends-preserved
@@ -19,6 +15,5 @@ loop-ends-preserved c = record {
       lists_more items c.args.lists.now c.args.self.now c.loop-ends.self c.add_ends.new.self
       c.loop-ends.ends-index c.ends-item.result c.loop-ends-test.true c.ends-item.is
       c.loop-ends.invariant.added
-      (subst (λ (xs : List Ending). AddsEnds c.loop-ends.self xs c.add_ends.new.self) c.as_slice.ensures.value
-      c.in_ok-add_ends.ensures);
+      (rw c.as_slice.ensures.value at c.in_ok-add_ends.ensures);
 }

@@ -33,8 +33,5 @@ returns-clause-ok c =
       outcome_is = c.in_ok-copy.ensures.outcome;
       count = c.in_ok-copy.ensures.count;
       first = c.in_ok-copy.ensures.first;
-      new_is =
-          c.push_reserved.ensures.items
-          ∙ (ap (λ (xs : List Ending). xs ++ copy ∷ []) c.in_ok-reserve.ensures.items
-          ∙ ap (λ (xs : List Ending). xs ++ copy ∷ []) c.self.view_is);
+      new_is = rw (c.push_reserved.ensures.items, c.in_ok-reserve.ensures.items, c.self.view_is);
     }

@@ -1,12 +1,9 @@
 -- The place is left at once, or gets its frame.
-use Rattle.std.proofs.Common.{◌+◌, ◌*◌, ◌-◌, ◌^◌, ◌<◌, List, length, reverse, ap, refl, sym, subst, true, ◌∙◌, arith}
-use Rattle.hp_explore.specs.Frames.{AreBelow, AreWalked, digits, frames_of, left_of}
+use Rattle.std.proofs.Common.{◌-◌, length, reverse, ap, refl, sym, true, ◌∙◌, arith}
+use Rattle.hp_explore.specs.Frames.{frames_of}
 use Rattle.hp_states.specs.Frames.{IsEntered}
-use Rattle.hp_schedules.specs.Schedules.{Setting, schedule_of}
 use Rattle.hp_states.specs.Places.{memory_at}
-use Rattle.hp_states.specs.Seen.{IsMemo, IsOnWay}
-use Rattle.hp_units.specs.declared.replies.Record.{Record}
-use Rattle.hp_states.specs.Walks.{IsPartWalkedBefore}
+use Rattle.hp_states.specs.Seen.{IsOnWay}
 use Rattle.hp_states.specs.declared.frames.Level.{Level}
 use Rattle.hp_schedules.specs.Notes.{TallyValue}
 use Rattle.hp_explore.proofs.Framing.{back_setting, below_many, frames_pushed, walk_opens}
@@ -27,9 +24,7 @@ entered_here : (o : Over) (c : In_ok-entry o)
     c.args.self.now.tally c.arrive.new.tally c.in_ok-entry.entry
 entered_here o c =
     let w = c.args.self.now in
-    subst (λ (h : List Record). IsEntered w.path.setting h w.part w.tally c.arrive.new.tally
-    c.in_ok-entry.entry) c.records.ensures
-    (c.in_ok-entry.ensures.ok w.path.setting
+    rw c.records.ensures at (c.in_ok-entry.ensures.ok w.path.setting
     (arrival w.path w.part c.records.result.now c.memory.result.now c.positions.result.now.cursors.items
     w.tally.ends w.memo c.records.ensures c.memory.ensures c.positions.ensures c.is_played.ensures
     c.requires.coming.walked c.requires.coming.on c.requires.coming.memo c.requires.coming.way))
@@ -38,11 +33,9 @@ way_here : (o : Over) (c : In_ok-entry o)
     → IsOnWay c.args.self.now.path.setting c.args.self.now.path.news c.arrive.new.memo
 way_here o c =
     let p = c.args.self.now.path in
-    subst (λ (h : List Record). IsOnWay p.setting h c.arrive.new.memo) c.records.ensures
-    (c.arrive.ensures.way p.setting
+    rw c.records.ensures at (c.arrive.ensures.way p.setting
     (c.memory.ensures ∙ ap (memory_at p.setting) (sym c.records.ensures))
-    (subst (λ (h : List Record). IsOnWay p.setting h c.args.self.now.memo) (sym c.records.ensures)
-    c.requires.coming.way))
+    (rw c.records.ensures c.requires.coming.way))
 
 pub arrive-requires-clause-processors : goal.arrive-requires-clause-processors
 arrive-requires-clause-processors o c = c.requires.coming.processors ∙ sym c.positions.ensures.many
@@ -60,10 +53,8 @@ pub returns-in-Counted-clause-kept : goal.returns-in-Counted-clause-kept
 returns-in-Counted-clause-kept o c =
     let w = c.args.self.now in
     let entered =
-    subst (IsEntered w.path.setting w.path.news w.part w.tally c.arrive.new.tally) c.in-Counted.is
-    (entered_here o (goal.at.returns-in-Counted-clause-kept o c).In_ok-entry) in
-    let all =
-    gone_back w.path.setting w.part (length w.tally.trail) w.tally c.arrive.new.tally w.path.news
+    rw c.in-Counted.is at (entered_here o (goal.at.returns-in-Counted-clause-kept o c).In_ok-entry) in
+    let all = gone_back w.path.setting w.part (length w.tally.trail) w.tally c.arrive.new.tally w.path.news
     (frames_of w) (reverse c.reserve.new.self.items) c.take_back.ensures.back.0 c.take_back.new.path
     c.take_back.new.memo w.processors (ap reverse c.in_ok-reserve.ensures.items) entered.1
     c.requires.coming.below
@@ -85,22 +76,14 @@ returns-in-Counted-clause-kept o c =
 pub returns-in-Counted-clause-less : goal.returns-in-Counted-clause-less
 returns-in-Counted-clause-less o c =
     let w = c.args.self.now in
-    subst (λ (g : Setting). left_of w.processors g.layout.history (reverse c.reserve.new.self.items)
-    < (digits w.processors (frames_of w) + 1)
-    * (w.processors + 2) ^ (w.path.setting.layout.history + 1 - length (frames_of w)))
-    (sym (back_setting w.path.setting w.path.news c.take_back.ensures.back.0 w.path c.take_back.new.path refl
-    c.take_back.ensures.back.1))
-    (subst (λ (fs : List Level). left_of w.processors w.path.setting.layout.history fs
-    < (digits w.processors (frames_of w) + 1)
-    * (w.processors + 2) ^ (w.path.setting.layout.history + 1 - length (frames_of w)))
-    (sym (ap reverse c.in_ok-reserve.ensures.items))
-    (left_counted w.processors w.path.setting.layout.history (frames_of w)))
+    rw (back_setting _ _ _ _ _ refl c.take_back.ensures.back.1, c.in_ok-reserve.ensures.items) (left_counted
+    w.processors
+    w.path.setting.layout.history (frames_of w))
 
 pub returns-in-Counted-clause-same : goal.returns-in-Counted-clause-same
 returns-in-Counted-clause-same o c =
     let w = c.args.self.now in (
-      back_setting w.path.setting w.path.news c.take_back.ensures.back.0 w.path c.take_back.new.path refl
-          c.take_back.ensures.back.1,
+      back_setting _ _ _ _ _ refl c.take_back.ensures.back.1,
       c.arrive.ensures.limit,
       refl,
     )
@@ -110,24 +93,14 @@ returns-in-Open-clause-kept o c =
     let w = c.args.self.now in
     let g = w.path.setting in
     let tally = c.arrive.new.tally in
-    let entered =
-    subst (IsEntered g w.path.news w.part w.tally tally) c.in-Open.is
-    (entered_here o (goal.at.returns-in-Open-clause-kept o c).In_ok-entry) in
-    let pushed =
-    frames_pushed w.frames.items c.reserve.new.self.items c.push_reserved.new.self.items c.in-Open.frame
-    c.in_ok-reserve.ensures.items c.push_reserved.ensures.items in
+    let entered = rw c.in-Open.is at (entered_here o (goal.at.returns-in-Open-clause-kept o c).In_ok-entry) in
+    let pushed = frames_pushed _ _ _ _ c.in_ok-reserve.ensures.items c.push_reserved.ensures.items in
     record {
       walked =
-          subst (AreWalked g w.part tally w.path.news) (sym pushed)
-          (walk_opens g w.part tally w.path.news c.in-Open.frame (frames_of w)
+          rw pushed (walk_opens g w.part tally w.path.news c.in-Open.frame (frames_of w)
           (entered.1 ∙ ap (λ (t : TallyValue). level_at t) (sym entered.0)) entered.2
-          (subst (λ (t : TallyValue). IsPartWalkedBefore g w.part (schedule_of w.path.news) t.ends)
-          (sym entered.0) c.requires.coming.walked)
-          (subst (λ (t : TallyValue). AreBelow g w.part t (length t.trail) w.path.news (frames_of w))
-          (sym entered.0) c.requires.coming.below));
-      memo =
-          subst (λ (t : TallyValue). IsMemo g t.ends c.arrive.new.memo) (sym entered.0)
-          (c.arrive.ensures.memo g w.tally.ends c.requires.coming.memo);
+          (rw entered.0 c.requires.coming.walked) (rw entered.0 c.requires.coming.below));
+      memo = rw entered.0 (c.arrive.ensures.memo g w.tally.ends c.requires.coming.memo);
       way = way_here o (goal.at.returns-in-Open-clause-kept o c).In_ok-entry;
       processors = c.requires.coming.processors;
       few = c.requires.coming.few;
@@ -137,17 +110,9 @@ returns-in-Open-clause-kept o c =
 pub returns-in-Open-clause-less : goal.returns-in-Open-clause-less
 returns-in-Open-clause-less o c =
     let w = c.args.self.now in
-    let entered =
-    subst (IsEntered w.path.setting w.path.news w.part w.tally c.arrive.new.tally) c.in-Open.is
-    (entered_here o (goal.at.returns-in-Open-clause-less o c).In_ok-entry) in
-    let pushed =
-    frames_pushed w.frames.items c.reserve.new.self.items c.push_reserved.new.self.items c.in-Open.frame
-    c.in_ok-reserve.ensures.items c.push_reserved.ensures.items in
-    subst (λ (fs : List Level). left_of w.processors w.path.setting.layout.history fs
-    < (digits w.processors (frames_of w) + 1)
-    * (w.processors + 2) ^ (w.path.setting.layout.history + 1 - length (frames_of w)))
-    (sym pushed)
-    (left_opened w.processors w.path.setting.layout.history (frames_of w) c.in-Open.frame
+    let entered = rw c.in-Open.is at (entered_here o (goal.at.returns-in-Open-clause-less o c).In_ok-entry) in
+    let pushed = frames_pushed _ _ _ _ c.in_ok-reserve.ensures.items c.push_reserved.ensures.items in
+    rw pushed (left_opened w.processors w.path.setting.layout.history (frames_of w) c.in-Open.frame
     (ap (λ (f : Level). f.next) entered.1)
     (omega (
       arith,

@@ -1,18 +1,18 @@
 -- The place is counted, and the walk stands at the one before it.
-use Rattle.std.proofs.Common.{◌≡◌, ◌<◌, ◌∷◌, ◌++◌, [], List, length, ℕ, ap, refl, sym, subst, ◌∙◌, arith}
-use Rattle.hp_explore.specs.Frames.{frames_of, left_of}
-use Rattle.hp_schedules.specs.Schedules.{Setting, schedule_of}
+use Rattle.std.proofs.Common.{◌≡◌, List, length, ap, refl, sym, ◌∙◌, arith}
+use Rattle.hp_explore.specs.Frames.{frames_of}
+use Rattle.hp_schedules.specs.Schedules.{schedule_of}
 use Rattle.hp_units.specs.declared.replies.Record.{Record}
 use Rattle.hp_schedules.specs.Cursors.{AreCursors}
 use Rattle.hp_schedules.specs.declared.cursors.Cursor.{Cursor}
 use Rattle.hp_states.specs.Frames.{GoOn, IsLeaving}
 use Rattle.hp_states.specs.Places.{memory_at, standing}
 use Rattle.hp_states.specs.Seen.{Grow}
-use Rattle.hp_states.specs.Walks.{IsNotedAtEnd, IsPartWalkedBefore, IsPartWalkedThrough}
+use Rattle.hp_states.specs.Walks.{IsNotedAtEnd, IsPartWalkedThrough}
 use Rattle.hp_explore.proofs.Framing.{back_setting, below_many}
 use Rattle.hp_states.proofs.Entered.{frame_goes_on, go_on_twice}
 use Rattle.hp_states.proofs.Keeping.{memo_added, memo_same, way_same}
-use Rattle.hp_explore.proofs.Walked.{gone_back, leaving}
+use Rattle.hp_explore.proofs.Walked.{gone_back}
 use Rattle.hp_states.proofs.Noting.{noted_grows, walked_on}
 use Rattle.hp_explore.proofs.Weights.{left_back}
 use Rattle.hp_explore.proofs.walk.Walk.go_back.Given.{Over}
@@ -26,9 +26,7 @@ noted_here : (o : Over) (c : In_ok-note o)
     c.note.new.tally.ends
 noted_here o c =
     let w = c.args.self.now in
-    subst (λ (h : List Record). IsNotedAtEnd c.args.is_end w.processors (standing w.path.setting h)
-    w.tally.ends c.note.new.tally.ends) c.records.ensures
-    (c.in_ok-note.ensures.ok w.path.setting
+    rw c.records.ensures at (c.in_ok-note.ensures.ok w.path.setting
     (c.memory.ensures ∙ ap (memory_at w.path.setting) (sym c.records.ensures)))
 
 -- the ends are those through the place
@@ -42,8 +40,7 @@ through o c =
     omega (arith, turns.within, c.requires.all, c.requires.kept.processors) in
     walked_on w.path.setting w.part w.path.news w.processors c.args.is_end w.tally.ends c.note.new.tally.ends
     c.requires.kept.processors c.is_played.ensures c.requires.end
-    (subst (λ (n : ℕ). IsPartWalkedBefore w.path.setting w.part (schedule_of w.path.news ++ n ∷ [])
-    w.tally.ends) same turns.walked)
+    (rw same at turns.walked)
     (noted_here o c)
 
 grown : (o : Over) (c : In_ok-note o) → Grow c.args.self.now.tally.ends c.note.new.tally.ends
@@ -63,13 +60,18 @@ leaves : (o : Over) (c : In_ok-note o) (records : List Record) (cursors : List C
     c.args.self.now.memo c.args.frame
 leaves o c records cursors is at =
     let w = c.args.self.now in
-    leaving w.path w.part records cursors c.note.new.tally w.memo c.args.frame is at
-    c.is_played.ensures
-    (frame_goes_on w.path.setting w.part (length w.tally.trail) w.tally c.note.new.tally w.path.news
-    c.args.frame c.requires.kept.walked.1.within (noted_on o c) c.requires.kept.walked.1)
-    (through o c)
-    (memo_added w.path.setting w.tally.ends c.note.new.tally.ends w.memo (grown o c) c.requires.kept.memo)
-    c.requires.kept.way
+    rw is (record {
+      played = c.is_played.ensures;
+      cursors_are = at;
+      frame_is =
+          frame_goes_on w.path.setting w.part (length w.tally.trail) w.tally c.note.new.tally w.path.news
+          c.args.frame c.requires.kept.walked.1.within (noted_on o c) c.requires.kept.walked.1;
+      through = through o c;
+      memo_is =
+          memo_added w.path.setting w.tally.ends c.note.new.tally.ends w.memo (grown o c)
+          c.requires.kept.memo;
+      way = c.requires.kept.way;
+    })
 
 pub leave-requires-clause-processors : goal.leave-requires-clause-processors
 leave-requires-clause-processors o c = c.requires.kept.processors ∙ sym c.positions.ensures.many
@@ -91,8 +93,7 @@ returns-clause-kept o c =
     (go_on_twice c.args.frame.start (length w.tally.trail) w.tally c.note.new.tally c.leave.new.tally
     c.requires.kept.walked.1.within (noted_on o here) c.leave.ensures.tally)
     c.requires.kept.walked.2
-    (subst (IsPartWalkedThrough w.path.setting w.part (schedule_of w.path.news)) (sym c.leave.ensures.ends)
-    (through o here))
+    (rw c.leave.ensures.ends (through o here))
     c.take_back.ensures.back.1
     (memo_same w.path.setting c.leave.new.tally.ends c.leave.new.memo c.take_back.new.memo
     c.take_back.ensures.same
@@ -114,11 +115,9 @@ returns-clause-kept o c =
 pub returns-clause-less : goal.returns-clause-less
 returns-clause-less o c =
     let w = c.args.self.now in
-    subst (λ (g : Setting). left_of w.processors g.layout.history (frames_of w)
-    < left_of w.processors w.path.setting.layout.history (c.args.frame ∷ frames_of w))
-    (sym (back_setting w.path.setting w.path.news c.take_back.ensures.back.0 w.path c.take_back.new.path refl
-    c.take_back.ensures.back.1))
-    (left_back w.processors w.path.setting.layout.history (frames_of w) c.args.frame
+    rw (back_setting _ _ _ _ _ refl c.take_back.ensures.back.1) (left_back w.processors
+    w.path.setting.layout.history (frames_of w)
+    c.args.frame
     (omega (arith, c.requires.kept.walked.0.within, c.requires.kept.processors))
     (omega (
       arith,
@@ -130,8 +129,7 @@ returns-clause-less o c =
 pub returns-clause-same : goal.returns-clause-same
 returns-clause-same o c =
     let w = c.args.self.now in (
-      back_setting w.path.setting w.path.news c.take_back.ensures.back.0 w.path c.take_back.new.path refl
-          c.take_back.ensures.back.1,
+      back_setting _ _ _ _ _ refl c.take_back.ensures.back.1,
       c.leave.ensures.limit ∙ c.note.ensures.limit,
       refl,
     )

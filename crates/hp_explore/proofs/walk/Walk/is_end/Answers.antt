@@ -1,9 +1,5 @@
 -- All scripts are at their ends, and the schedule is the part's.
-use Rattle.std.proofs.Common.{◌≡◌, ℕ, List, length, subst, true, arith}
-use Rattle.std.specs.Prelude.{◌↔◌}
-use Rattle.hp_units.specs.declared.replies.Record.{Record}
-use Rattle.hp_schedules.specs.Parts.{IsOfPart}
-use Rattle.hp_schedules.specs.Schedules.{schedule_of}
+use Rattle.std.proofs.Common.{◌≡◌, length, true, arith}
 use Rattle.hp_states.proofs.Noting.{end_here, no_end_here}
 use Rattle.hp_explore.proofs.walk.Walk.is_end.Goals as goal
 
@@ -24,11 +20,6 @@ returns c =
     omega (arith, turns.within, c.requires.all, c.requires.kept.processors) in
     let counted : w.processors ≡ c.args.frame.now.next =
     omega (arith, turns.within, c.requires.all, c.requires.kept.processors) in
-    let of =
-    subst (λ (h : List Record).
-    (c.is_of.result ≡ true) ↔ IsOfPart c.args.frame.now.next w.part (schedule_of h))
-    c.records.ensures
-    (subst (λ (n : ℕ). (c.is_of.result ≡ true) ↔ IsOfPart n w.part (schedule_of c.records.result.now)) counted
-    c.is_of.ensures) in
+    let of = rw (counted, c.records.ensures) at c.is_of.ensures in
     end_here w.path.setting w.part w.path.news c.args.frame.now.next c.args.frame.now.is_over c.is_of.result
     same c.if-not-frame.false turns.over of.0 of.1

@@ -1,10 +1,7 @@
 -- No call was made.
-use Rattle.std.proofs.Common.{List, length, reverse, ap, refl, sym, subst, arith}
-use Rattle.hp_explore.specs.Frames.{AreBelow}
+use Rattle.std.proofs.Common.{length, ap, sym, arith}
 use Rattle.hp_schedules.specs.Notes.{TallyValue}
 use Rattle.hp_explore.specs.Paths.{PathValue}
-use Rattle.hp_states.specs.Seen.{IsMemo, IsOnWay}
-use Rattle.hp_states.specs.declared.frames.Level.{Level}
 use Rattle.hp_explore.proofs.Framing.{on_begun, walk_begun}
 use Rattle.hp_explore.proofs.walk.Walk.start.Goals as goal
 
@@ -18,15 +15,9 @@ returns-clause-coming c =
     record {
       walked = walk_begun p c.args.part ends begun none;
       on = on_begun p c.args.part begun;
-      below =
-          subst (AreBelow p.setting c.args.part tally (length tally.trail) p.news)
-          (sym (ap (λ (fs : List Level). reverse fs) c.new.ensures.items)) begun;
-      memo =
-          subst (λ (q : PathValue). IsMemo q.setting ends c.in_ok-memo.memo) (sym c.in_ok-path.ensures)
-          (c.in_ok-memo.ensures.memo ends);
-      way =
-          subst (λ (q : PathValue). IsOnWay q.setting q.news c.in_ok-memo.memo) (sym c.in_ok-path.ensures)
-          c.in_ok-memo.ensures.way;
+      below = rw c.new.ensures.items begun;
+      memo = rw c.in_ok-path.ensures (c.in_ok-memo.ensures.memo ends);
+      way = rw c.in_ok-path.ensures c.in_ok-memo.ensures.way;
       processors = ap (λ (q : PathValue). length q.setting.scripts) (sym c.in_ok-path.ensures);
       few = c.requires;
       short = omega (arith, ap (λ (q : PathValue). length q.news) c.in_ok-path.ensures);
@@ -34,9 +25,6 @@ returns-clause-coming c =
 
 pub returns-clause-setting : goal.returns-clause-setting
 returns-clause-setting c = ap (λ (q : PathValue). q.setting) c.in_ok-path.ensures
-
-pub returns-clause-part : goal.returns-clause-part
-returns-clause-part c = refl
 
 pub returns-clause-limit : goal.returns-clause-limit
 returns-clause-limit c = ap (λ (t : TallyValue). t.limit) c.new-tally.ensures

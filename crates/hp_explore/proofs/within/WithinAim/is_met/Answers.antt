@@ -1,10 +1,9 @@
 -- If all scripts are finished, the place is such an end just if its outcome has the lines.
-use Rattle.std.proofs.Common.{Bool, List, ℕ, subst}
+use Rattle.std.proofs.Common.{Bool}
 use Rattle.std.specs.Prelude.{◌↔◌, IsTrue}
 use Rattle.std.proofs.lemmas.Bool.{iff_false}
 use Rattle.std.proofs.lemmas.Result.{IfOk-weaker}
 use Rattle.hp_questions.specs.Wanted.{Meets}
-use Rattle.hp_schedules.specs.declared.scripts.Step.{Step}
 use Rattle.hp_explore.specs.Withins.{aim_within}
 use Rattle.hp_explore.proofs.Budgets.{met_told}
 use Rattle.hp_explore.proofs.SearchEnds.{end_told}
@@ -24,9 +23,7 @@ told c met is =
     c.requires.schedule c.requires.admitted
     (end_told p wanted c.args.processors c.in_ok-outcome.outcome met c.is_played.ensures
     (c.in_ok-is_over.ensures.0 c.if-not-branch.false) c.requires.processors c.in_ok-outcome.ensures
-    (subst (λ (n : ℕ). IsTrue met ↔ Meets n p.setting.scripts wanted c.in_ok-outcome.outcome) c.cpus.ensures
-    (subst (λ (ss : List (List Step)). IsTrue met ↔ Meets c.cpus.result ss wanted c.in_ok-outcome.outcome)
-    c.scripts.ensures is)))
+    (rw (← c.cpus.ensures) (rw c.scripts.ensures at is)))
 
 pub returns-clause-found : goal.returns-clause-found
 returns-clause-found c =

@@ -1,8 +1,6 @@
 -- What is met, then what is spent, then what further ends of plans depend on.
-use Rattle.std.proofs.Common.{List, ◌++◌, ℕ, ap, refl, subst, ◌∙◌}
+use Rattle.std.proofs.Common.{List, ◌++◌, ℕ, ap, refl, ◌∙◌}
 use Rattle.std.proofs.lemmas.List.{append_assoc}
-use Rattle.hp_questions.specs.Marks.{AreMarks}
-use Rattle.hp_explore.specs.Withins.{AreSpent}
 use Rattle.hp_explore.proofs.within.WithinAim.push_marks.Goals as goal
 
 pub returns : goal.returns
@@ -23,11 +21,8 @@ returns c =
         spent = spent.0;
         causes = causes.0;
         parts = refl;
-        met_are =
-            subst (λ (n : ℕ). AreMarks p.setting.layout.cpus p.setting.scripts c.args.self.now.wanted.now n
-            p.news met.0) c.requires.processors met.2;
-        spent_are =
-            subst (λ (s : List ℕ). AreSpent c.args.self.now.budget s spent.0) c.requires.schedule spent.2;
+        met_are = rw c.requires.processors at met.2;
+        spent_are = rw c.requires.schedule at spent.2;
         causes_are = causes.2;
       },
     )
