@@ -52,7 +52,8 @@ arrive-requires-clause-coming g c κs within =
           c.latest.result.now c.positions.result.now.cursors.items v.visited c.go_on.new.self
           c.is_played.ensures c.requires.some is c.requires.beside.0 forth tt
           (λ before r at. c.latest.ensures before r (c.records.ensures ∙ at)) c.positions.ensures
-          c.in_ok-go_on.ensures.same.0 c.in_ok-go_on.ensures.same.1 c.in_ok-go_on.ensures.kept c.in_ok-go_on.ensures.ok)),
+          c.in_ok-go_on.ensures.same.0 c.in_ok-go_on.ensures.same.1 c.in_ok-go_on.ensures.kept
+          c.in_ok-go_on.ensures.ok)),
       keys_forth v.path q aim cpu v.keys forth c.requires.beside.1,
     )
 
