@@ -3,7 +3,7 @@
 serial`, and gives it what `hotplug run` prints. `check` at the top runs it after the gate; alone it
 takes the folder of the crates:
 
-    python3 docs/check_explain.py [CRATES [SEED [COUNT [SLACK]]]]   without: crates, 51, 150 and 1
+    python3 docs/check_explain.py [CRATES [SEED [COUNT [SLACK]]]]   without: crates, 51, 1500 and 1
 
 On COUNT scenarios that are drawn at random, with all events and plans and at most 150 orders, for
 some of which the history may have no room: an order's answers are explained, as words, and as JSON
@@ -37,9 +37,12 @@ from explain_files import check_files
 from explain_orders import LAST, Orders, Seen, answers_in, answers_of, warnings_of
 from explain_runs import check_peer, check_runs, check_speed
 from explain_texts import as_objects, as_words, expected_of
+from side_by_side import check_side_by_side, chunks
 
 SEED = 51
-COUNT = 150
+COUNT = 1500
+# How many scenarios one task draws.
+CHUNK = 25
 MOST_ORDERS = 150
 LAYOUTS = ({"blocks": 3, "boot": ["normal", "movable", "movable"]},
            {"blocks": 3, "boot": ["normal", "movable", "movable"]},
@@ -263,16 +266,25 @@ def check_drawn(checks, programs, draw):
     return True
 
 
+def check_chunk(task, checks, draw):
+    """Checks as many scenarios as the task says."""
+    crates, slack, number = task
+    with tempfile.TemporaryDirectory() as folder:
+        programs = Explains(crates, folder, slack)
+        drawn = 0
+        while drawn < number:
+            drawn += check_drawn(checks, programs, draw)
+
+
 def main(words):
     crates, seed, count, slack = words + [ROOT / "crates", SEED, COUNT, 1][len(words):]
-    checks, draw, slack = Checks(), random.Random(int(seed)), int(slack)
+    crates, checks, draw, slack = Path(crates).resolve(), Checks(), random.Random(int(seed)), int(slack)
+    tasks = [(crates, slack, size) for size in chunks(int(count), CHUNK)]
+    check_side_by_side(checks, check_chunk, tasks, seed)
     with tempfile.TemporaryDirectory() as folder:
-        programs = Explains(Path(crates).resolve(), folder, slack)
+        programs = Explains(crates, folder, slack)
         try:
             check_files(checks, programs)
-            drawn = 0
-            while drawn < int(count):
-                drawn += check_drawn(checks, programs, draw)
             check_runs(checks, programs, draw, drawn_scenario)
             check_speed(checks, programs, slack)
             check_peer(checks, programs, draw, drawn_scenario)

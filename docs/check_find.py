@@ -3,7 +3,7 @@
 order of the lines, each played by `hotplug serial`. `check` at the top runs it after the gate;
 alone it takes the folder of the crates:
 
-    python3 docs/check_find.py [CRATES [SEED [COUNT]]]        without them: crates, 34 and 400
+    python3 docs/check_find.py [CRATES [SEED [COUNT]]]        without them: crates, 34 and 1200
 
 On so many scenarios that are drawn at random, with events of all kinds and plans, where 0 may stand
 for an operation of the setup, and on a quarter as many in which most lines name a result or work on
@@ -18,18 +18,18 @@ is found as a scenario with the setup's lines before the calls, `--json` the sam
 scripts that use 0 before a begin are told, and a text that no end has as a line ends with status 2.
 
 `--group` puts those ends together that agree in their blocks, in their answers, or in how the plans
-of each processor ended, and adds their counts, in words and as JSON, also past a limit; `--summary` has a line of each end or group with
-its count, its share, how many calls were refused, and the blocks, neighbours that are alike joined.
+of each processor ended, and adds their counts, in words and as JSON, also past a limit; `--summary`
+has a line of each end or group with its count, its share, how many calls were refused, and the
+blocks, neighbours that are alike joined.
 
 Of each: the parts of 1, of 3 and of 7, in any order, add up to what `explore` prints, in words and
 as JSON, and `--jobs 2` prints the same; of one in four also from files and with an end as a
 scenario. There a sum is refused where a part is missing, comes twice, was cut off, is of another
-scenario or stopped at its limit, and where a schedule or an answer was changed. That a count was
-changed is not found out. The last line is 'find: N passed, M failed'; the exit status is 0 where
-nothing failed, else 1.
+scenario or was stopped, where a schedule or an answer was changed, and where there are 2^64
+interleavings or more. That a count was changed is not found out. The last line is 'find: N passed,
+M failed'; the exit status is 0 where nothing failed, else 1.
 """
 import json
-import random
 import re
 import subprocess
 import sys
@@ -39,9 +39,12 @@ from pathlib import Path
 from check_lab import (LAYOUT, ROOT, SECONDS, Checks, Programs, answers_and_state, end_of,
                        end_with, ends_of)
 from lab_names import made_plain, named_calls, result_of, unnamed, with_numbers
+from side_by_side import check_side_by_side, chunks
 
 SEED = 34
-COUNT = 400
+COUNT = 1200
+# How many scenarios one task draws.
+CHUNK = 20
 SPOILED = 4
 MOST_ORDERS = 120
 NO_LINES = ("", "refused", "refused Nonsense", "refused NotFree x", "refused NotFree 01", "word",
@@ -514,7 +517,7 @@ def refused(text, scenario, setup):
     yield text + "{}\n", f"line {len(lines) + 1} is none of a part"
     yield text[:-1], f"line {len(lines)} is none of a part"
     yield (text + '{"first": 1, "interleavings": null}\n',
-           f"line {len(lines) + 1}: the part stopped at its limit")
+           f"line {len(lines) + 1}: the part was stopped before its end")
     ends = [at for at, line in enumerate(lines) if at not in heads]
     at = ends[-1]
     for changed, said in changed_lines(lines[at]):
@@ -543,6 +546,11 @@ def check_refused(checks, programs, scenario, setup, texts):
     more = re.sub('"interleavings": ([0-9]+)', lambda found: found[0] + "0", text, count=1)
     status, _ = programs.sum(more)
     checks.holds(where, status == 0, "a count that was changed is refused")
+    huge = re.sub('"interleavings": [0-9]+', f'"interleavings": {2**64 - 1}', text, count=1)
+    told = programs.sum(huge)
+    one_end = text.count('"interleavings": ') == 1
+    is_so = told[0] == 0 if one_end else told == (1, "hotplug_lab: more than 2^64-1 interleavings\n")
+    checks.holds(where, is_so, f"says {told} of 2^64-1 interleavings")
 
 
 def check_parts(checks, programs, draw, scenario, setup, is_spoiled):
@@ -570,7 +578,7 @@ def check_part_limit(checks, programs, scenario, setup, orders):
     lines = text.splitlines()
     checks.holds(where, (status, len(lines)) == (3, 3), f"ends with {status} after {text!r}")
     told = programs.sum(text)
-    stopped = (1, "hotplug_lab: line 3: the part stopped at its limit\n")
+    stopped = (1, "hotplug_lab: line 3: the part was stopped before its end\n")
     checks.holds(where, told == stopped, f"says {told}")
 
 
@@ -720,6 +728,14 @@ def check_drawn(checks, programs, draw, drawn, calls_by):
     return True
 
 
+def check_chunk(task, checks, draw):
+    """Checks as many scenarios as the task says."""
+    programs, number, calls_by = task
+    drawn = 0
+    while drawn < number:
+        drawn += check_drawn(checks, programs, draw, drawn, calls_by)
+
+
 def check_no_lines(checks, programs):
     scenario = {"layout": LAYOUT, "calls": ["0 map db 0"]}
     for text in NO_LINES:
@@ -747,17 +763,17 @@ def check_past(checks, programs):
 
 def main(words):
     crates, seed, count = (words + [ROOT / "crates", SEED, COUNT][len(words):])
-    checks, draw = Checks(), random.Random(int(seed))
+    checks, count = Checks(), int(count)
+    programs = Searches(Path(crates).resolve())
     try:
-        programs = Searches(Path(crates).resolve())
         check_no_lines(checks, programs)
         check_past(checks, programs)
-        for number, calls_by in ((int(count), drawn_calls), (int(count) // 4, calls_with_names)):
-            drawn = 0
-            while drawn < number:
-                drawn += check_drawn(checks, programs, draw, drawn, calls_by)
     except (ValueError, LookupError, OSError, subprocess.SubprocessError) as error:
         checks.holds("find", False, f"cannot be checked: {error!r}")
+    tasks = [(programs, size, calls_by)
+             for number, calls_by in ((count, drawn_calls), (count // 4, calls_with_names))
+             for size in chunks(number, CHUNK)]
+    check_side_by_side(checks, check_chunk, tasks, seed)
     for failure in checks.failures:
         print(failure)
     print(f"find: {checks.passed} passed, {len(checks.failures)} failed")
