@@ -108,7 +108,11 @@ shape_cause d h f is = grind arith
 past_limits : (d : Data) (parts : Option LayoutParts) → parts_in d ≡ parts
     → is_some (limit_fault_of parts) ≡ true → IsPastLimits d
 past_limits d None e h = absurd cc
-past_limits d (Some l) e h = (l, e, grind arith)
+past_limits d (Some l) e h = (l, e, some_fault_of (layout_fault l) h)
+  where
+    some_fault_of : (o : Option LayoutFault) → is_some (option_map Layout o) ≡ true → is_some o ≡ true
+    some_fault_of None h = absurd cc
+    some_fault_of (Some fault) h = refl
 
 layout_cause : (d : Data) → is_some (limit_fault_of (parts_in d)) ≡ true
     → (f : Finding) → IsLayout f → ValueCause d f
@@ -164,8 +168,11 @@ counted b f fs h = rw (← h) (sum_by-cons (λ x. cond (is_fault x) 1 0) f fs)
 none_counted : (lines : ℕ) (found : List Finding) → All (IsWarning lines) found → count_by is_fault found ≡ 0
 none_counted lines [] all = refl
 none_counted lines (f ∷ fs) all =
-    rw (counted false f fs (no_fault lines f (All-head (IsWarning lines) f fs all)))
-    (none_counted lines fs (All-tail (IsWarning lines) f fs all))
+    omega (
+      arith,
+      counted false f fs (no_fault lines f (All-head (IsWarning lines) f fs all)),
+      none_counted lines fs (All-tail (IsWarning lines) f fs all),
+    )
 
 pub warnings_agree : (input : List ℕ) (s : NamedValue) (found : List Finding) → named_in input ≡ Ok s
     → All (IsWarning (length s.scenario.lines)) found → Agrees (named_in input) found
