@@ -1,5 +1,7 @@
 -- What is shown for lines that come after a scenario's is the trace of the scenario with them.
-use Rattle.std.proofs.Common.{◌≡◌, ℕ, ◌+◌, List, [], ◌∷◌, ◌++◌, length, map, Option, None, inl, inr, refl, sym, ap, ◌∙◌, append_assoc, append-nil, arith}
+use Rattle.std.proofs.Common.{◌≡◌, ℕ, ◌+◌, ◌-◌, ◌^◌, List, [], ◌∷◌, ◌++◌, length, map, drop, take, Option, None, inl, inr, refl, sym, ap, subst, ◌∙◌, append_assoc, append-nil, arith}
+use Rattle.std.specs.Prelude.{codes}
+use Rattle.std.specs.Fmt.{format_spec, styled_decimal}
 use Rattle.std.specs.List.{AllByRecursion}
 use Rattle.std.proofs.lemmas.List.{drop_at, length-append, take_at}
 use Rattle.hp_machine.specs.Machine.{MachineValue, booted}
@@ -9,11 +11,13 @@ use Rattle.hp_scenario.specs.Names.{Numbered}
 use Rattle.hp_scenario.specs.Scenario.{ScenarioValue}
 use Rattle.hp_scenario.specs.declared.lines.Line.{Line}
 use Rattle.hp_text.specs.Plans.{plan_line}
+use Rattle.hp_text.specs.State.{newline}
 use Rattle.hp_trace.specs.Calls.{MakesWork, answer_text, moved_of}
 use Rattle.hp_trace.specs.Lives.{AreRead, IsBegun, LiveValue, LivesThrough, with_lines}
-use Rattle.hp_trace.specs.Rows.{AreDrawn, IsRow, Row, RowsValue, SaysAs, drawing, words}
+use Rattle.hp_trace.specs.Rows.{AreDrawn, DrawsIf, IsRow, Row, RowsValue, SaysAs, drawing, words}
 use Rattle.hp_trace.specs.Traces.{IsStart, IsTraceOf, MakesLines, TracesLine, TracesLines, numbered_text, rows_if, skipped}
 use Rattle.hp_trace.specs.Views.{shows}
+use Rattle.hp_trace.specs.declared.rows.Form.{Form}
 use Rattle.hp_trace.specs.declared.rows.Form.TheVariants.{Written}
 use Rattle.hp_trace.specs.declared.view.View.{View}
 use Rattle.hp_trace.proofs.LinesTraced.{line_more}
@@ -23,6 +27,10 @@ use Rattle.hp_trace.proofs.NamesKept.{IsWrittenAlike, all_written_alike}
 
 abbrev below : List ℕ → RowsValue → RowsValue
 below front r = record r { text = front ++ r.text }
+
+front_joined : (f a b c d e g : List ℕ)
+    → f ++ (a ++ b ++ c ++ d ++ e ++ g) ≡ (f ++ a) ++ b ++ c ++ d ++ e ++ g
+front_joined f a b c d e g = simp append_assoc refl
 
 row_below : (front : List ℕ) (m : MachineValue) (asked answer : List ℕ) (moved : Option Move)
     (old new : RowsValue)
@@ -39,7 +47,9 @@ row_below front m asked answer moved old new row =
         written = record {
           gap = w.gap;
           memory = w.memory;
-          is = rw w.is (simp append_assoc refl);
+          is =
+              ap (λ (t : List ℕ). front ++ t) w.is
+              ∙ front_joined front old.text asked w.gap answer w.memory newline;
         };
         is = ap (λ (r : RowsValue). below front r) row.added.is;
       };
@@ -53,15 +63,19 @@ drawn_below : (front : List ℕ) (rows : List Row) (old new : RowsValue) → old
     → AreDrawn rows old new → AreDrawn rows (below front old) (below front new)
 drawn_below front [] old new is drawn = ap (λ (r : RowsValue). below front r) drawn
 drawn_below front (drawing asked answer moved m ∷ rows) old new is drawn =
-    let row : IsRow Written m asked answer moved old drawn.0 = rw is at drawn.1 in (
+    let row : IsRow Written m asked answer moved old drawn.0 =
+    subst (λ (f : Form). DrawsIf f m asked answer moved old drawn.0) is drawn.1 in (
       below front drawn.0,
-      rw is (row_below front m asked answer moved old drawn.0 row),
+      subst (λ (f : Form). DrawsIf f m asked answer moved (below front old) (below front drawn.0)) (sym is)
+          (row_below front m asked answer moved old drawn.0 row),
       drawn_below front rows drawn.0 new (ap (λ (r : RowsValue). r.form) row.added.is ∙ is) drawn.2,
     )
 drawn_below front (words text ∷ rows) old new is drawn =
-    let said : SaysAs Written text old drawn.0 = rw is at drawn.1 in (
+    let said : SaysAs Written text old drawn.0 =
+    subst (λ (f : Form). SaysAs f text old drawn.0) is drawn.1 in (
       below front drawn.0,
-      rw is (said_below front text old drawn.0 said),
+      subst (λ (f : Form). SaysAs f text (below front old) (below front drawn.0)) (sym is)
+          (said_below front text old drawn.0 said),
       drawn_below front rows drawn.0 new (ap (λ (r : RowsValue). r.form) said ∙ is) drawn.2,
     )
 
@@ -70,10 +84,12 @@ drawn_form : (rows : List Row) (old new : RowsValue) → old.form ≡ Written �
     → new.form ≡ Written
 drawn_form [] old new is drawn = ap (λ (r : RowsValue). r.form) drawn ∙ is
 drawn_form (drawing asked answer moved m ∷ rows) old new is drawn =
-    let row : IsRow Written m asked answer moved old drawn.0 = rw is at drawn.1 in
+    let row : IsRow Written m asked answer moved old drawn.0 =
+    subst (λ (f : Form). DrawsIf f m asked answer moved old drawn.0) is drawn.1 in
     drawn_form rows drawn.0 new (ap (λ (r : RowsValue). r.form) row.added.is ∙ is) drawn.2
 drawn_form (words text ∷ rows) old new is drawn =
-    let said : SaysAs Written text old drawn.0 = rw is at drawn.1 in
+    let said : SaysAs Written text old drawn.0 =
+    subst (λ (f : Form). SaysAs f text old drawn.0) is drawn.1 in
     drawn_form rows drawn.0 new (ap (λ (r : RowsValue). r.form) said ∙ is) drawn.2
 
 start_form : (v : View) (m : MachineValue) (rows : RowsValue) → IsStart Written v m rows → rows.form ≡ Written
@@ -121,8 +137,13 @@ line_below : (v : View) (names : List (List ℕ)) (c : Numbered) (number : ℕ) 
     → TracesLine v names number m c.line (record old { text = total }) (below total new) next
 line_below v names c number total m next old new is alike one = record {
   rows = one.rows;
-  made = rw (← alike) one.made;
-  drawn = rw (append-nil total) at
+  made =
+      subst (λ (asked : List ℕ). MakesWork m c.line.cpu (asks.asked_by c.line.work) asked one.rows next)
+      (ap (λ (t : List ℕ). styled_decimal (format_spec 32 3 0 4 (2 ^ 64 - 1)) number ++ codes " " ++ t) alike)
+      one.made;
+  drawn =
+      subst (λ (t : List ℕ). AreDrawn (rows_if (shows v number) one.rows) (record old { text = t })
+      (below total new)) (append-nil total)
       (drawn_below total (rows_if (shows v number) one.rows) (record old { text = [] }) new is one.drawn);
 }
 
@@ -135,12 +156,21 @@ lines_below : (v : View) (names : List (List ℕ)) (before number : ℕ) (first 
     → TracesLines v names before first (lines ++ map (λ c. c.line) came) start
     (record new.rows { text = total ++ shown }) new.machine
 lines_below v names before number first start lines [] total shown old new at same is traced lives alike =
-    rw (append-nil lines, lives.1, lives.0, append-nil total) traced
+    subst (λ (ls : List Line). TracesLines v names before first ls start
+    (record new.rows { text = total ++ shown }) new.machine) (sym (append-nil lines))
+    (subst (λ (n : LiveValue). TracesLines v names before first lines start
+    (record n.rows { text = total ++ shown }) n.machine) (sym lives.1)
+    (subst (λ (t : List ℕ). TracesLines v names before first lines start
+    (record old.rows { text = total ++ t }) old.machine) (sym lives.0)
+    (subst (λ (t : List ℕ). TracesLines v names before first lines start (record old.rows { text = t })
+    old.machine) (sym (append-nil total)) traced)))
 lines_below v names before number first start lines (c ∷ came) total shown old new at same is traced
     lives alike =
     let next = lives.0 in
     let one : TracesLine v c.names number old.machine c.line (record old.rows { text = [] }) next.rows
-    next.machine = rw same at lives.2.traced in
+    next.machine =
+    subst (λ (w : View). TracesLine w c.names number old.machine c.line (record old.rows { text = [] })
+    next.rows next.machine) same lives.2.traced in
     let longer : TracesLines v names before first (lines ++ c.line ∷ []) start (below total next.rows)
     next.machine =
     line_more v names before number lines c.line first old.machine next.machine start
@@ -164,7 +194,9 @@ pub begun_after : (v : View) (s : ScenarioValue) (lines : List Line) (boot after
 begun_after v s lines boot after unseen later rows same at traced start = record {
   same = refl;
   lists = traced.lists;
-  run = rw (← at, ← same) traced.made;
+  run =
+      subst (λ (m : MachineValue). MakesLines s.names 1 m s.lines traced.lists after) at
+      (subst (λ (ls : List Line). MakesLines s.names 1 boot ls traced.lists after) same traced.made);
   begun = start;
 }
 
@@ -183,8 +215,10 @@ shown_is_traced v s came names shown begun now from b read lives =
     let count : skipped v (length (s.lines ++ more)) ≡ length s.lines =
     ap (λ (k : ℕ). skipped v k) (length-append s.lines more)
     ∙ skipped_are v (length s.lines) (length more) from in
-    let front = take_at s.lines more (skipped v (length (s.lines ++ more))) (sym count) in
-    let back = drop_at s.lines more (skipped v (length (s.lines ++ more))) (sym count) in
+    let front : s.lines ≡ take (skipped v (length (s.lines ++ more))) (s.lines ++ more) =
+    sym (take_at s.lines more (skipped v (length (s.lines ++ more))) (sym count)) in
+    let back : more ≡ drop (skipped v (length (s.lines ++ more))) (s.lines ++ more) =
+    sym (drop_at s.lines more (skipped v (length (s.lines ++ more))) (sym count)) in
     let found = lines_otherwise s.names names 1 (booted s.layout) s.lines b.lists begun.machine b.run in
     let traced : TracesLines v names (length s.lines) begun.machine more begun.rows
     (record now.rows { text = begun.rows.text ++ shown }) now.machine =
@@ -196,11 +230,17 @@ shown_is_traced v s came names shown begun now from b read lives =
       traced = record {
         unseen = found.0;
         first = begun.machine;
-        begins = rw front found.1;
+        begins =
+            subst (λ (ls : List Line). MakesLines names 1 (booted s.layout) ls found.0 begun.machine) front
+            found.1;
         start = begun.rows;
         begun = b.begun;
         machine = now.machine;
-        traced = rw (back, count) traced;
+        traced =
+            subst (λ (ls : List Line). TracesLines v names (skipped v (length (s.lines ++ more)))
+            begun.machine ls begun.rows (record now.rows { text = begun.rows.text ++ shown }) now.machine)
+            back
+            (rw count traced);
       };
       written = refl;
     }

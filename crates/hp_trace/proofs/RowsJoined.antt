@@ -1,5 +1,5 @@
 -- Rows that are joined, and shown as text.
-use Rattle.std.proofs.Common.{◌≡◌, ℕ, ◌+◌, length, List, [], ◌∷◌, ◌++◌, map, Option, None, refl, ap, subst, ◌∙◌, append_assoc, append-nil, true, false, Bor}
+use Rattle.std.proofs.Common.{◌≡◌, ℕ, ◌+◌, length, List, [], ◌∷◌, ◌++◌, map, Option, None, refl, sym, ap, subst, ◌∙◌, append_assoc, append-nil, Bool, true, false, Bor}
 use Rattle.std.specs.List.{flat_map}
 use Rattle.std.specs.Option.{option_to_list}
 use Rattle.std.specs.Str.Lines.{lines}
@@ -9,9 +9,10 @@ use Rattle.hp_text.specs.State.{newline}
 use Rattle.hp_map.specs.Rounds.{Ends, IsJoinOf, JoinerValue, RoundsValue, Takes, nothing_read}
 use Rattle.hp_map.specs.Rows.{RowValue, row_with}
 use Rattle.hp_map.specs.declared.row_picture.Move.{Move}
-use Rattle.hp_trace.specs.Rows.{AreDrawn, AreJoinedTo, AreMoreShown, AreRowsShown, IsDrawn, IsJoinedSoFar, IsRow, IsRowShown, IsWritten, Row, RowsValue, drawing, line_rows, no_rows, words}
-use Rattle.hp_trace.specs.RowsJoined.{AreEntriesShown, AreShown, IsJoinedText, is_line, more_line}
+use Rattle.hp_trace.specs.Rows.{AreDrawn, AreJoinedTo, AreMoreShown, AreRowsShown, DrawsIf, IsDrawn, IsJoinedSoFar, IsRow, IsRowShown, IsWritten, Row, RowsValue, SaysAs, drawing, line_rows, no_rows, words}
+use Rattle.hp_trace.specs.RowsJoined.{AreEntriesShown, AreShown, IsJoinedText, IsShownAs, IsShownIn, is_line, more_line}
 use Rattle.hp_trace.specs.Traces.{AreRowsOf, IsJoinedTraceOf, IsScenarioTraced, IsStart, shown_rows, skipped, start_text}
+use Rattle.hp_trace.specs.declared.rows.Form.{Form}
 use Rattle.hp_trace.specs.declared.rows.Form.TheVariants.{Joined, Kept}
 use Rattle.hp_trace.specs.declared.view.View.{View}
 
@@ -25,7 +26,8 @@ shown_more (x ∷ xs) ys old mid new first second =
 
 entries_more : (xs ys : List RoundsValue) (old mid new : List ℕ) → AreEntriesShown xs old mid
     → AreEntriesShown ys mid new → AreEntriesShown (xs ++ ys) old new
-entries_more [] ys old mid new first second = rw (← first) second
+entries_more [] ys old mid new first second =
+    subst (λ (t : List ℕ). AreEntriesShown ys t new) first second
 entries_more (x ∷ xs) ys old mid new first second =
     (first.0, first.1, entries_more xs ys (first.0 ++ more_line x) mid new first.2 second)
 
@@ -37,9 +39,16 @@ pub rows_more : (xs : List RowValue) (x : RowValue) (old mid new : RowsValue) �
 rows_more xs x old mid new first second = record {
   text = second.text;
   kept = second.kept;
-  shown = shown_more xs (x ∷ []) old.text first.text second.text first.shown
-      (second.text, rw first.is at second.shown, refl);
-  is = rw (second.is, first.is);
+  shown =
+      shown_more xs (x ∷ []) old.text first.text second.text first.shown (
+        second.text,
+        subst (λ (t : List ℕ). IsShownIn x t second.text)
+            (ap (λ (r : RowsValue). r.text) first.is) second.shown,
+        refl,
+      );
+  is =
+      second.is
+      ∙ ap (λ (r : RowsValue). record r { text = second.text; kept = second.kept }) first.is;
 }
 
 -- an entry
@@ -49,19 +58,33 @@ pub entry_shown : (entry : RoundsValue) (old mid : RowsValue) (line : List ℕ) 
 entry_shown entry old mid line same rows = record {
   text = mid.text ++ line;
   kept = rows.kept;
-  shown = (mid.text, rw rows.is rows.shown, ap (λ (t : List ℕ). mid.text ++ t) same);
+  shown = (
+    mid.text,
+    subst (λ (t : List ℕ). AreShown entry.rows old.text t) (sym (ap (λ (r : RowsValue). r.text) rows.is))
+        rows.shown,
+    ap (λ (t : List ℕ). mid.text ++ t) same,
+  );
   is = ap (λ (r : RowsValue). record r { text = mid.text ++ line }) rows.is;
 }
 
+entries_none : (old : RowsValue) → AreMoreShown [] old old
+entries_none old = record { text = old.text; kept = old.kept; shown = refl; is = refl }
+
 -- a line
+line_in : (row : RowValue) (line old new : List ℕ) → is_line row ≡ true → line ≡ row.asked
+    → new ≡ old ++ (line ++ newline) → IsShownIn row old new
+line_in row line old new plain same is =
+    subst (λ (b : Bool). IsShownAs b row.asked row.answer old new) (sym plain)
+    (is ∙ ap (λ (t : List ℕ). old ++ (t ++ newline)) same ∙ sym (append_assoc old row.asked newline))
+
 pub line_shown : (row : RowValue) (old inside : RowsValue) (text line : List ℕ) → old ≡ inside
     → is_line row ≡ true → line ≡ row.asked → text ≡ inside.text ++ (line ++ newline)
     → IsRowShown row old (record inside { text = text })
 line_shown row old inside text line same plain asked is =
-    rw same (record {
+    subst (λ (r : RowsValue). IsRowShown row r (record inside { text = text })) (sym same) (record {
       text = text;
       kept = inside.kept;
-      shown = rw (plain, is, asked, append_assoc inside.text row.asked newline);
+      shown = line_in row line inside.text text plain asked is;
       is = refl;
     })
 
@@ -71,39 +94,82 @@ pub row_shown : (row : RowValue) (old new : RowsValue) → is_line row ≡ false
 row_shown row old new drawn w = record {
   text = w.text;
   kept = w.kept;
-  shown = rw drawn w.written;
+  shown =
+      subst (λ (b : Bool). IsShownAs b row.asked row.answer old.text w.text) (sym drawn) w.written;
   is = w.is;
 }
 
 pub nothing_shown : (entry : Option RoundsValue) (old : RowsValue) → entry ≡ None
     → AreMoreShown (option_to_list entry) old old
 nothing_shown entry old none =
-    rw none (record { text = old.text; kept = old.kept; shown = refl; is = refl })
+    subst (λ (e : Option RoundsValue). AreMoreShown (option_to_list e) old old) (sym none) (entries_none old)
 
 -- ---- rows that come one after another
 
 pub none_to : (old : RowsValue) → AreJoinedTo [] old old
-none_to old = record { form = refl; all = λ rows so. rw (append-nil rows) so }
+none_to old = record {
+  form = refl;
+  all =
+      λ rows so. subst (λ (rs : List RowValue). IsJoinedSoFar rs old) (sym (append-nil rows)) so;
+}
 
 pub more_to : (xs ys : List RowValue) (old mid new : RowsValue) → AreJoinedTo xs old mid
     → AreJoinedTo ys mid new → AreJoinedTo (xs ++ ys) old new
 more_to xs ys old mid new first second = record {
   form = second.form ∙ first.form;
-  all = λ rows so. rw (← append_assoc rows xs ys) (second.all (rows ++ xs) (first.all rows so));
+  all =
+      λ rows so.
+      subst (λ (rs : List RowValue). IsJoinedSoFar rs new) (append_assoc rows xs ys)
+      (second.all (rows ++ xs) (first.all rows so));
 }
+
+joined_with : (row : RowValue) (gone : Option RoundsValue) (j : JoinerValue) (old : RowsValue)
+    (text : List ℕ) (kept : List RowValue) → Takes row gone old.joiner j
+    → AreEntriesShown (option_to_list gone) old.text text
+    → AreJoinedTo (row ∷ []) old (record old { text = text; kept = kept; joiner = j })
+joined_with row gone j old text kept takes shown = record {
+  form = refl;
+  all =
+      λ rows so. record {
+        done = so.done ++ option_to_list gone;
+        read = takes so.done rows so.read;
+        shown = entries_more so.done (option_to_list gone) [] old.text text so.shown shown;
+      };
+}
+
+pub row_joined : (row : RowValue) (gone : Option RoundsValue) (j : JoinerValue) (old new : RowsValue)
+    → Takes row gone old.joiner j → AreMoreShown (option_to_list gone) (record old { joiner = j }) new
+    → AreJoinedTo (row ∷ []) old new
+row_joined row gone j old new takes more =
+    subst (λ (r : RowsValue). AreJoinedTo (row ∷ []) old r) (sym more.is)
+    (joined_with row gone j old more.text more.kept takes more.shown)
 
 pub row_joined_in : (row : RowValue) (gone : Option RoundsValue) (j : JoinerValue)
     (old inside new : RowsValue) → old ≡ inside → Takes row gone inside.joiner j
     → AreMoreShown (option_to_list gone) (record inside { joiner = j }) new → AreJoinedTo (row ∷ []) old new
 row_joined_in row gone j old inside new same takes more =
-    rw (same, more.is) (record {
-      form = refl;
-      all = λ rows so. record {
-        done = so.done ++ option_to_list gone;
-        read = takes so.done rows so.read;
-        shown = entries_more so.done (option_to_list gone) [] inside.text more.text so.shown more.shown;
-      };
-    })
+    subst (λ (r : RowsValue). AreJoinedTo (row ∷ []) r new) (sym same)
+    (row_joined row gone j inside new takes more)
+
+all_shown : (gone last : Option RoundsValue) (j : JoinerValue) (old mid new : RowsValue)
+    → Ends old.joiner (option_to_list gone ++ option_to_list last)
+    → AreMoreShown (option_to_list gone) (record old { joiner = j }) mid
+    → AreMoreShown (option_to_list last) mid new
+    → (rows : List RowValue) → IsJoinedSoFar rows old → IsJoinedText rows new.text
+all_shown gone last j old mid new ends first second = λ rows so.
+    let second_shown : AreEntriesShown (option_to_list last) first.text new.text =
+    subst (λ (t : List ℕ). AreEntriesShown (option_to_list last) t new.text)
+    (ap (λ (r : RowsValue). r.text) first.is)
+    (subst (λ (t : List ℕ). AreEntriesShown (option_to_list last) mid.text t)
+    (sym (ap (λ (r : RowsValue). r.text) second.is)) second.shown) in
+    record {
+      entries = so.done ++ (option_to_list gone ++ option_to_list last);
+      joined = ends so.done rows so.read;
+      shown =
+          entries_more so.done (option_to_list gone ++ option_to_list last) [] old.text new.text so.shown
+          (entries_more (option_to_list gone) (option_to_list last) old.text first.text new.text first.shown
+          second_shown);
+    }
 
 pub all_joined : (gone last : Option RoundsValue) (j : JoinerValue) (old inside mid new : RowsValue)
     (text : List ℕ) → old ≡ inside → Ends inside.joiner (option_to_list gone ++ option_to_list last)
@@ -111,31 +177,26 @@ pub all_joined : (gone last : Option RoundsValue) (j : JoinerValue) (old inside 
     → AreMoreShown (option_to_list last) mid new → text ≡ new.text
     → (rows : List RowValue) → IsJoinedSoFar rows old → IsJoinedText rows text
 all_joined gone last j old inside mid new text same ends first second is = λ rows so.
-    let begun : IsJoinedSoFar rows inside = rw (← same) so in
-    let rest : AreEntriesShown (option_to_list last) first.text new.text =
-    rw second.is (rw first.is at second.shown) in
-    record {
-      entries = begun.done ++ (option_to_list gone ++ option_to_list last);
-      joined = ends begun.done rows begun.read;
-      shown = rw is (entries_more begun.done (option_to_list gone ++ option_to_list last) [] inside.text
-          new.text begun.shown (entries_more (option_to_list gone) (option_to_list last) inside.text
-          first.text new.text first.shown rest));
-    }
+    subst (λ (t : List ℕ). IsJoinedText rows t) (sym is)
+    (all_shown gone last j inside mid new ends first second rows
+    (subst (λ (r : RowsValue). IsJoinedSoFar rows r) same so))
 
 -- a line more
 lines_more : (texts : List (Bor (List ℕ))) (line : Bor (List ℕ))
     → line_rows (map (λ t. t.now) (texts ++ line ∷ []))
     ≡ line_rows (map (λ t. t.now) texts) ++ row_with line.now [] None [] ∷ []
 lines_more [] line = refl
-lines_more (t ∷ texts) line = rw (lines_more texts line)
+lines_more (t ∷ texts) line =
+    ap (λ (rows : List RowValue). row_with t.now [] None [] ∷ rows) (lines_more texts line)
 
 pub line_joined : (texts : List (Bor (List ℕ))) (line : Bor (List ℕ)) (row : RowValue)
     (old mid new : RowsValue) → row ≡ row_with line.now [] None []
     → AreJoinedTo (line_rows (map (λ t. t.now) texts)) old mid → AreJoinedTo (row ∷ []) mid new
     → AreJoinedTo (line_rows (map (λ t. t.now) (texts ++ line ∷ []))) old new
 line_joined texts line row old mid new is first second =
-    rw (lines_more texts line, ← is)
-    (more_to (line_rows (map (λ t. t.now) texts)) (row ∷ []) old mid new first second)
+    subst (λ (rows : List RowValue). AreJoinedTo rows old new) (sym (lines_more texts line))
+    (subst (λ (r : RowValue). AreJoinedTo (line_rows (map (λ t. t.now) texts) ++ r ∷ []) old new) is
+    (more_to (line_rows (map (λ t. t.now) texts)) (row ∷ []) old mid new first second))
 
 -- ---- the rows of a trace, joined and as values
 
@@ -148,6 +209,13 @@ record AreBoth (list : List Row) (old new : RowsValue) : Type 0 where
   joined : AreJoinedTo values old new
   kept : (r : RowsValue) → r.form ≡ Kept → AreDrawn list r (with_kept r values)
 
+both_none : (old : RowsValue) → AreBoth [] old old
+both_none old = record {
+  values = [];
+  joined = none_to old;
+  kept = λ r is. ap (λ (rs : List RowValue). record r { kept = rs }) (append-nil r.kept);
+}
+
 both_more : (row : Row) (list : List Row) (xs : List RowValue) (old mid new : RowsValue)
     → AreJoinedTo xs old mid → ((r : RowsValue) → r.form ≡ Kept → IsDrawn row r (with_kept r xs))
     → AreBoth list mid new → AreBoth (row ∷ list) old new
@@ -158,27 +226,30 @@ both_more row list xs old mid new first drawn rest = record {
       λ r is. (
         with_kept r xs,
         drawn r is,
-        rw (← append_assoc r.kept xs rest.values) (rest.kept (with_kept r xs) is),
+        subst (λ (rs : List RowValue). AreDrawn list (with_kept r xs) (record r { kept = rs }))
+            (append_assoc r.kept xs rest.values) (rest.kept (with_kept r xs) is),
       );
 }
 
 both : (list : List Row) (old new : RowsValue) → old.form ≡ Joined → AreDrawn list old new
     → AreBoth list old new
-both [] old new is drawn =
-    rw drawn (record {
-      values = [];
-      joined = none_to old;
-      kept = λ r form. ap (λ (rs : List RowValue). record r { kept = rs }) (append-nil r.kept);
-    })
+both [] old new is drawn = subst (λ (r : RowsValue). AreBoth [] old r) (sym drawn) (both_none old)
 both (drawing asked answer moved m ∷ list) old new is drawn =
-    let row : IsRow Joined m asked answer moved old drawn.0 = rw is at drawn.1 in
+    let row : IsRow Joined m asked answer moved old drawn.0 =
+    subst (λ (f : Form). DrawsIf f m asked answer moved old drawn.0) is drawn.1 in
     both_more (drawing asked answer moved m) list (row_with asked answer moved row.blocks ∷ []) old drawn.0
-    new row.added (λ r form.
-    rw form (record { blocks = row.blocks; picture = row.picture; added = refl }))
+    new row.added
+    (λ r form.
+    subst (λ (f : Form). DrawsIf f m asked answer moved r
+    (with_kept r (row_with asked answer moved row.blocks ∷ []))) (sym form)
+    (record { blocks = row.blocks; picture = row.picture; added = refl }))
     (both list drawn.0 new (row.added.form ∙ is) drawn.2)
 both (words text ∷ list) old new is drawn =
-    let said : AreJoinedTo (line_rows (lines text)) old drawn.0 = rw is at drawn.1 in
-    both_more (words text) list (line_rows (lines text)) old drawn.0 new said (λ r form. rw form)
+    let said : AreJoinedTo (line_rows (lines text)) old drawn.0 =
+    subst (λ (f : Form). SaysAs f text old drawn.0) is drawn.1 in
+    both_more (words text) list (line_rows (lines text)) old drawn.0 new said
+    (λ r form.
+    subst (λ (f : Form). SaysAs f text r (with_kept r (line_rows (lines text)))) (sym form) refl)
     (both list drawn.0 new (said.form ∙ is) drawn.2)
 
 none_so_far : IsJoinedSoFar [] (no_rows Joined)

@@ -17,9 +17,10 @@ use Rattle.hp_scenario.specs.declared.lines.Line.{Line}
 use Rattle.hp_step_logs.specs.Snapshots.{Shows, snapshot_of}
 use Rattle.hp_trace.specs.Calls.{MakesPlan, MakesSeal, MakesSteps, MakesWork, file_rows}
 use Rattle.hp_trace.specs.Logs.{AreLinesDrawn, IsLogOfScenario, RunsLines, histories}
-use Rattle.hp_trace.specs.Rows.{Adds, AreDrawn, IsRowLogged, Row, RowsValue, drawing, drawn_joined, noted, words}
+use Rattle.hp_trace.specs.Rows.{Adds, AreDrawn, DrawsIf, IsRowLogged, Row, RowsValue, SaysAs, drawing, drawn_joined, noted, words}
 use Rattle.hp_trace.specs.StateLogs.{IsLogged, LogValue}
 use Rattle.hp_trace.specs.Traces.{IsStart}
+use Rattle.hp_trace.specs.declared.rows.Form.{Form}
 use Rattle.hp_trace.specs.declared.rows.Form.TheVariants.{Logged}
 use Rattle.hp_trace.specs.declared.view.View.{View}
 use Rattle.hp_trace.proofs.HistoryLogs.{IsReached, IsTurn, Turns, boot_reached, rows_log, turn_taken, whole_log, whole_rows}
@@ -84,18 +85,27 @@ next_seen : (m n : MachineValue) (old new : RowsValue) → n.layout ≡ m.layout
     → HasSeen n new × (new.log.events ≡ old.log.events ++ step_log m.layout m.state n.state)
 next_seen m n old new same has drawn = grind arith
 
+-- a text changes nothing
+said_nothing : (form : Form) (text : List ℕ) (old new : RowsValue) → form ≡ Logged
+    → SaysAs form text old new → new ≡ old
+said_nothing form text old new is said = subst (λ (f : Form). SaysAs f text old new) is said
+
 pub rows_logged : (m after : MachineValue) (rows : List Row) (old new : RowsValue) → IsReached m
     → Turns m rows after → HasSeen m old → AreDrawn rows old new
     → new.log.events ≡ old.log.events ++ rows_log m rows
 rows_logged m after [] old new reached turns has drawn = cc (drawn, append-nil old.log.events)
 rows_logged m after (words text ∷ rows) old new reached turns has drawn =
-    let same : drawn.0 ≡ old = rw has.form at drawn.1 in
-    rows_logged m after rows old new reached turns has (rw same at drawn.2)
+    let same : drawn.0 ≡ old = said_nothing old.form text old drawn.0 has.form drawn.1 in
+    rows_logged m after rows old new reached turns has
+    (subst (λ (r : RowsValue). AreDrawn rows r new) same drawn.2)
 rows_logged m after (drawing asked answer moved n ∷ rows) old new reached turns has drawn =
     let taken = turn_taken m n reached turns.0 in
-    let row : IsRowLogged n old drawn.0 = rw has.form at drawn.1 in
+    let row : IsRowLogged n old drawn.0 =
+    subst (λ (f : Form). DrawsIf f n asked answer moved old drawn.0) has.form drawn.1 in
     let next = next_seen m n old drawn.0 taken.layout has row in
-    rw (rows_logged n after rows drawn.0 new taken.reached turns.1 next.0 drawn.2, next.1, append_assoc)
+    rows_logged n after rows drawn.0 new taken.reached turns.1 next.0 drawn.2
+    ∙ (ap (λ (es : List LogEvent). es ++ rows_log n rows) next.1
+    ∙ append_assoc old.log.events (step_log m.layout m.state n.state) (rows_log n rows))
 
 -- ---- a scenario
 
@@ -111,9 +121,12 @@ pub run_logged : (s : ScenarioValue) (v : View) (lines : List Line) (old new : R
     → start ≡ booted s.layout → lines ≡ s.lines → IsStart Logged v start old
     → AreLinesDrawn start lines old new after → block_frames ≡ block_size s.layout
     → events ≡ new.log.events → IsLogOfScenario s block_frames events
-run_logged s v lines old new start after block_frames events boot same begun d size is =
-    let begun_at : IsStart Logged v (booted s.layout) old = rw boot at begun in
-    let drawn : AreLinesDrawn (booted s.layout) s.lines old new after = rw (boot, same) at d in
+run_logged s v lines old new start after block_frames events at same begun d size is =
+    let begun_at : IsStart Logged v (booted s.layout) old =
+    subst (λ (k : MachineValue). IsStart Logged v k old) at begun in
+    let drawn : AreLinesDrawn (booted s.layout) s.lines old new after =
+    subst (λ (ls : List Line). AreLinesDrawn (booted s.layout) ls old new after) same
+    (subst (λ (k : MachineValue). AreLinesDrawn k lines old new after) at d) in
     record {
       rows = drawn.rows;
       machine = after;
@@ -159,7 +172,8 @@ pub lines_more : (lines : List Line) (at : ℕ) (line : Line) (m n after : Machi
     → AreLinesDrawn m (take (at + 1) lines) old new after
 lines_more lines at line m n after old mid new inside is d a =
     line_drawn m n after line (take at lines) (take (at + 1) lines) old mid new
-    (rw (take_more lines at line inside, ← is)) d a
+    (take_more lines at line inside
+    ∙ ap (λ (l : Line). take at lines ++ l ∷ []) (sym is)) d a
 
 -- ---- a row of a log
 
