@@ -11,10 +11,10 @@ use Rattle.hp_units.specs.declared.replies.Reply.TheVariants.{Done}
 use Rattle.hp_plain.specs.Image.{Pictured}
 use Rattle.hp_history.specs.Course.{receipt_for}
 use Rattle.hp_history.specs.Kept.{pictured}
-use Rattle.hp_replays.specs.Replaying.{Refutes}
+use Rattle.hp_machine.specs.Replaying.{Refutes}
 use Rattle.hp_history.specs.Volumes.{volume_of}
-use Rattle.hp_replays.specs.declared.replaying.ReplayFault.{ReplayFault}
-use Rattle.hp_replays.specs.declared.replaying.ReplayFault.TheVariants.{WrongReply, WrongSerial, OutOfMemory}
+use Rattle.hp_machine.specs.declared.replaying.ReplayFault.{ReplayFault}
+use Rattle.hp_machine.specs.declared.replaying.ReplayFault.TheVariants.{WrongReply, WrongSerial, OutOfMemory}
 use Rattle.hp_history.specs.declared.volumes.Volume.{Volume}
 use Rattle.hp_machine.specs.Machine.{IsCalled, IsHistory, MachineValue, record_of, sealed}
 use Rattle.hp_machine.specs.Volumes.{GoesOnFrom, GoesOnWith}

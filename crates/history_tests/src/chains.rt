@@ -1,8 +1,7 @@
 //! Histories and chains of volumes with an error each, and the fault that reports it.
 use hp_history::{Records, Volume};
-use hp_machine::Machine;
+use hp_machine::{ChainFault, Machine, ReplayFault, audit_chain, replay};
 use hp_plain::Image;
-use hp_replays::{ChainFault, ReplayFault, audit_chain, replay};
 use hp_units::{Cpu, Event, Frame, Layout, Order, Record, Refusal, Reply, Serial};
 use layouts_for_tests::{LAST_OFFLINE, four_blocks};
 use std::alloc::{AllocError, Global};

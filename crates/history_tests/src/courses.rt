@@ -1,7 +1,7 @@
 //! A course of two records, and an audit of records that lead back to the state at boot.
 use hp_history::{Course, Records, Volume};
+use hp_machine::audit_chain;
 use hp_plain::Image;
-use hp_replays::audit_chain;
 use hp_units::{Cpu, Event, Frame, Layout, Order, Record, Reply, Serial};
 use layouts_for_tests::{LAST_OFFLINE, four_blocks};
 use std::alloc::{AllocError, Global};

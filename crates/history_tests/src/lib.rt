@@ -2,8 +2,8 @@
 //! how they are sealed, replayed and audited.
 //!
 //! `images` and `placed` test the state as a value that a history begins with (hp_plain), and
-//! `courses` its records (hp_history). `machines` and `undone` test a machine that keeps a history
-//! (hp_machine), and `chains` replays and chains of volumes (hp_replays). The layout is that of
+//! `courses` its records (hp_history). `machines` and `undone` test a machine that keeps a history,
+//! and `chains` replays and chains of volumes (all hp_machine). The layout is that of
 //! layouts_for_tests. `sealed` has what the laws of histories imply for a machine, sealed or not,
 //! proved from what hp_laws, hp_history and hp_machine make public alone; `machines` calls it. Run
 //! the tests by `rt test` in this folder.

@@ -9,14 +9,13 @@ ghost use Rattle.hp_units.specs.Placement.{is_unplugged};
 ghost use Rattle.hp_units.specs.declared.replies.Record.{Record};
 ghost use Rattle.hp_units.specs.declared.replies.Reply.TheVariants.{Done};
 ghost use Rattle.hp_laws.specs.Offline.{IsUndisturbed};
-ghost use Rattle.hp_replays.specs.declared.replaying.ReplayFault.TheVariants.{OutOfMemory};
+ghost use Rattle.hp_machine.specs.declared.replaying.ReplayFault.TheVariants.{OutOfMemory};
 ghost use Rattle.hp_machine.specs.Volumes.{GoesOnWith, KeepsOperationsAcrossSeals};
 
 use hp_history::Volume;
 use hp_laws::{handed_frames_are_plugged, undisturbed_offline_commits};
-use hp_machine::{Machine, machines_go_on_from_their_volumes};
+use hp_machine::{Machine, ReplayFault, machines_go_on_from_their_volumes, replay_from};
 use hp_plain::Image;
-use hp_replays::{ReplayFault, replay_from};
 use hp_units::{CallFault, Cpu, Event, Reply, Serial};
 use std::alloc::{AllocError, Global};
 

@@ -9,7 +9,7 @@ use Rattle.hp_schedules.specs.PartNumbers.{NumberValue}
 use Rattle.hp_search.specs.declared.forms.EndsForm.{EndsForm}
 use Rattle.hp_search.specs.declared.forms.ScheduleForm.{ScheduleForm}
 use Rattle.hp_scenario.specs.Gives.{Fails}
-use Rattle.hp_names.specs.Named.{named_in}
+use Rattle.hp_scripts.specs.Named.{named_in}
 use Rattle.hp_scenario.specs.declared.fault.ScenarioFault.{ScenarioFault}
 use Rattle.hp_streams.specs.Reading.{limit}
 use Rattle.hp_part_files.specs.Faults.{IsSumFault}

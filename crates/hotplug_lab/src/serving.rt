@@ -5,7 +5,7 @@ ghost use Rattle.std.specs.Io.KnownBytes.{Appends, Keeps};
 ghost use Rattle.hp_streams.specs.Reading.{ReadsAll};
 ghost use Rattle.hp_lab_shell.specs.Needs.{unbegun_of};
 ghost use Rattle.hotplug_lab.specs.Words.{Answers, IsServeFault, IsTextFault, IsUnanswered, Serves, ServesText};
-ghost use Rattle.hp_names.specs.Named.{named_in};
+ghost use Rattle.hp_scripts.specs.Named.{named_in};
 
 use crate::answering::answer_to;
 use hp_lab_shell::{Served, TextAndStatus, Word, look_for_line, unbegun_of};

@@ -10,10 +10,10 @@ use Rattle.hp_units.specs.InLayout.{AreFreeAreasOf}
 use Rattle.hp_units.specs.Memory.{FreeAreas, free_list, with_free_list, with_kind}
 use Rattle.hp_units.specs.FreeAreas.{is_on, with_front, with_back}
 use Rattle.hp_units.specs.Placement.{free_places, covered}
-use Rattle.hp_lemmas.proofs.Sizes.{with_free_list-size, with_kind-size}
-use Rattle.hp_lemmas.proofs.Places.{HasOrder, with_free_list-places, covered-in, covered-out}
-use Rattle.hp_lemmas.proofs.Lists.{free_list-cases}
-use Rattle.hp_lemmas.proofs.Parts.{IsMore, IsPart, back-more, front-more}
+use Rattle.hp_units.proofs.Sizes.{with_free_list-size, with_kind-size}
+use Rattle.hp_units.proofs.Places.{HasOrder, with_free_list-places, covered-in, covered-out}
+use Rattle.hp_units.proofs.ListEdits.{free_list-cases}
+use Rattle.hp_units.proofs.ListParts.{IsMore, IsPart, back-more, front-more}
 use Rattle.hp_buddy.specs.Buddy.{AreApart, MayBeGiven}
 
 -- the lists go up to each order of the layout

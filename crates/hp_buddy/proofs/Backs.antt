@@ -13,10 +13,10 @@ use Rattle.hp_tape.specs.declared.deltas.Delta.TheVariants.{Link, Unlink}
 use Rattle.hp_tape.specs.declared.deltas.ListId.{ListId}
 use Rattle.hp_tape.specs.declared.deltas.ListId.TheVariants.{Area}
 use Rattle.hp_tape.specs.Deltas.{FitsAreas, IsDeltaOf, areas_undo, is_behind}
-use Rattle.hp_links.specs.LinkedLists.{LinkedLists, list_at, with_list, IsOn, with_behind}
+use Rattle.hp_buddy.specs.LinkedLists.{LinkedLists, list_at, with_list, IsOn, with_behind}
 use Rattle.hp_buddy.specs.Buddy.{BuddyValue}
 use Rattle.hp_buddy.proofs.Linked.{areas_of, on_contains, put_behind-same}
-use Rattle.hp_lemmas.proofs.Lists.{on_tail}
+use Rattle.hp_units.proofs.ListEdits.{on_tail}
 use Rattle.hp_buddy.proofs.Notes.{Seen, IsUnlinked, unlink-areas}
 
 -- ---- a frame that was put on a list leaves it

@@ -7,8 +7,8 @@ use Rattle.hp_units.specs.Memory.{FreeAreas, free_list, with_kind}
 use Rattle.hp_units.specs.FreeAreas.{is_on, with_back, without_free}
 use Rattle.hp_buddy.specs.Buddy.{AreApart, MayBeGiven, HasBlockMore}
 use Rattle.hp_buddy.proofs.Apart.{has_order, back-apart, kind-apart}
-use Rattle.hp_lemmas.proofs.Parts.{with_back-places}
-use Rattle.hp_lemmas.proofs.Joins.{without_free-places}
+use Rattle.hp_units.proofs.ListParts.{with_back-places}
+use Rattle.hp_units.proofs.Joins.{without_free-places}
 use Rattle.hp_buddy.proofs.Gives.{Gives, without_free-apart}
 
 -- a block that is added at the back

@@ -9,17 +9,17 @@ use Rattle.hp_units.specs.declared.rows.Mobility.{Mobility}
 use Rattle.hp_units.specs.declared.rows.Zone.{Zone}
 use Rattle.hp_units.specs.declared.rows.Zone.TheVariants.{Normal as NormalZone}
 use Rattle.hp_units.specs.LayoutParts.{LayoutParts, IsLayout}
-use Rattle.hp_numbers.specs.Numbers.{ancestor}
+use Rattle.hp_units.specs.Numbers.{ancestor}
 use Rattle.hp_units.specs.Arithmetic.{frame_count, buddy}
 use Rattle.hp_units.specs.Memory.{FreeAreas, free_list, with_free_list, class_index, usable_class}
 use Rattle.hp_units.specs.FreeAreas.{Taken, is_on, with_front, with_halves, without_free, without_buddies, least_order, take_front, take_block, greatest_order, steal_front, steal_block, other_mobility, join_order, give_block, class_of}
 use Rattle.hp_units.specs.Placement.{free_places}
-use Rattle.hp_lemmas.proofs.Places.{IsOrderAmong, least_order-among, greatest_order-among}
-use Rattle.hp_lemmas.proofs.Joins.{JoinsTo, join_order-joins, without_buddies-other}
+use Rattle.hp_units.proofs.Places.{IsOrderAmong, least_order-among, greatest_order-among}
+use Rattle.hp_units.proofs.Joins.{JoinsTo, join_order-joins, without_buddies-other}
 use Rattle.hp_tape.specs.Deltas.{FitsAreas, IsOfAreas, areas_undo}
 use Rattle.hp_tape.specs.Tapes.{TapeValue, HasRoom, NotesAreas}
 use Rattle.hp_tape.proofs.Leads.{notes-append, notes-more}
-use Rattle.hp_links.specs.LinkedLists.{LinkedLists, list_at, first}
+use Rattle.hp_buddy.specs.LinkedLists.{LinkedLists, list_at, first}
 use Rattle.hp_buddy.specs.Buddy.{BuddyValue, AreApart, MayBeGiven, HasBlockMore}
 use Rattle.hp_buddy.proofs.Linked.{without-front}
 use Rattle.hp_buddy.proofs.Apart.{has_order, on_frame}

@@ -6,15 +6,15 @@ use Rattle.std.proofs.Math.Nat.{mul-le-mul_right, lt-div-mul-add}
 use Rattle.hp_units.specs.declared.rows.Class.{Class}
 use Rattle.hp_units.specs.declared.rows.Zone.{Zone}
 use Rattle.hp_units.specs.LayoutParts.{LayoutParts}
-use Rattle.hp_numbers.specs.Numbers.{ancestor}
+use Rattle.hp_units.specs.Numbers.{ancestor}
 use Rattle.hp_units.specs.Arithmetic.{buddy, frame_count}
 use Rattle.hp_units.specs.Memory.{FreeAreas, free_list}
 use Rattle.hp_units.specs.FreeAreas.{without, without_free, without_buddies, join_order, give_block, class_of}
 use Rattle.hp_units.specs.Placement.{free_places, covered}
-use Rattle.hp_lemmas.proofs.Places.{with_front-places, covered-in, covered-out}
-use Rattle.hp_lemmas.proofs.Joins.{without_buddies-places, HasBuddies, JoinsTo, join_order-joins}
-use Rattle.hp_lemmas.proofs.Geometry.{ancestor_above, aligned_ancestor, multiple_aligned, buddy_above}
-use Rattle.hp_lemmas.proofs.Parts.{without-part}
+use Rattle.hp_units.proofs.Places.{with_front-places, covered-in, covered-out}
+use Rattle.hp_units.proofs.Joins.{without_buddies-places, HasBuddies, JoinsTo, join_order-joins}
+use Rattle.hp_units.proofs.Geometry.{ancestor_above, aligned_ancestor, multiple_aligned, buddy_above}
+use Rattle.hp_units.proofs.ListParts.{without-part}
 use Rattle.hp_buddy.specs.Buddy.{AreApart, MayBeGiven, HasBlockMore}
 use Rattle.hp_buddy.proofs.Apart.{has_order, part-apart, front-apart}
 

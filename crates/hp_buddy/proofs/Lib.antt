@@ -15,3 +15,23 @@ pub mod Splits
 pub mod Standing
 pub mod Strides
 pub mod Wholes
+pub mod Chains
+pub mod Linking
+pub mod Members
+pub mod Places
+pub mod Sequences
+mod Shown
+pub mod Views
+pub mod Walks
+pub mod CpuBacks
+pub mod Besides
+pub mod CpuCalls
+pub mod CpuCounts
+pub mod CpuEdits
+pub mod CpuEnds
+pub mod Loops
+pub mod CpuPlaced
+pub mod Refills
+pub mod Spills
+pub mod Together
+pub mod Undoes

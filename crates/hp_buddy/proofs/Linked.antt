@@ -8,10 +8,10 @@ use Rattle.hp_units.specs.Memory.{FreeAreas}
 use Rattle.hp_units.specs.FreeAreas.{is_on, without}
 use Rattle.hp_units.specs.Placement.{free_places}
 use Rattle.hp_tape.specs.Deltas.{put_behind, is_behind}
-use Rattle.hp_links.specs.LinkedLists.{LinkedLists, IsUnlisted, last_from, with_behind, last, without as without_first}
-use Rattle.hp_lemmas.proofs.Places.{places_from-set}
-use Rattle.hp_lemmas.proofs.Joins.{is_on-none}
-use Rattle.hp_lemmas.proofs.Lists.{on_cases, on_tail, on-places}
+use Rattle.hp_buddy.specs.LinkedLists.{LinkedLists, IsUnlisted, last_from, with_behind, last, without as without_first}
+use Rattle.hp_units.proofs.Places.{places_from-set}
+use Rattle.hp_units.proofs.Joins.{is_on-none}
+use Rattle.hp_units.proofs.ListEdits.{on_cases, on_tail, on-places}
 
 -- the free areas that links and kinds show
 abbrev pub areas_of : LinkedLists → List Kind → FreeAreas

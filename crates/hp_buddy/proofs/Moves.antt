@@ -14,11 +14,11 @@ use Rattle.hp_units.specs.FreeAreas.{is_on, without, with_back, without_free}
 use Rattle.hp_units.specs.Placement.{free_places}
 use Rattle.hp_buddy.specs.Buddy.{AreApart, MayBeGiven}
 use Rattle.hp_buddy.specs.Moves.{move_one}
-use Rattle.hp_lemmas.proofs.Places.{HasOrder, class_index-lt, covered-in}
-use Rattle.hp_lemmas.proofs.Joins.{is_on-none, without_free-places}
+use Rattle.hp_units.proofs.Places.{HasOrder, class_index-lt, covered-in}
+use Rattle.hp_units.proofs.Joins.{is_on-none, without_free-places}
 use Rattle.hp_buddy.proofs.Gives.{without_free-apart}
 use Rattle.hp_buddy.proofs.Apart.{has_order, back-apart}
-use Rattle.hp_lemmas.proofs.Parts.{with_back-places}
+use Rattle.hp_units.proofs.ListParts.{with_back-places}
 
 -- ---- one block keeps the free blocks apart
 

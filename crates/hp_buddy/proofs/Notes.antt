@@ -17,11 +17,11 @@ use Rattle.hp_tape.specs.declared.deltas.Delta.TheVariants.{Link, Unlink, Kind a
 use Rattle.hp_tape.specs.declared.deltas.ListId.TheVariants.{Area}
 use Rattle.hp_tape.specs.Deltas.{FitsAreas, IsDeltaOf, IsOfAreas, areas_undo, is_behind}
 use Rattle.hp_tape.specs.Tapes.{TapeValue, NotesAreas}
-use Rattle.hp_links.specs.LinkedLists.{LinkedLists, list_at, with_list, off_lists, IsOn, IsListed, IsUnlisted, with_behind, last, without as without_first}
+use Rattle.hp_buddy.specs.LinkedLists.{LinkedLists, list_at, with_list, off_lists, IsOn, IsListed, IsUnlisted, with_behind, last, without as without_first}
 use Rattle.hp_buddy.specs.Buddy.{BuddyValue, IsBuddyOf}
-use Rattle.hp_lemmas.proofs.Places.{class_index-lt, list_places-cons, HasOrder}
-use Rattle.hp_lemmas.proofs.Tables.{get_set}
-use Rattle.hp_lemmas.proofs.Lists.{on-places, covered-self, list_places-le}
+use Rattle.hp_units.proofs.Places.{class_index-lt, list_places-cons, HasOrder}
+use Rattle.hp_units.proofs.Tables.{get_set}
+use Rattle.hp_units.proofs.ListEdits.{on-places, covered-self, list_places-le}
 use Rattle.hp_buddy.proofs.Linked.{areas_of, unlisted, contains_on, on_contains, off_list, off_all, without-same, put_behind-same, AreDistinct, behind-last, without-front, without-back}
 
 -- one delta

@@ -18,9 +18,9 @@ use Rattle.hp_units.specs.Isolation.{move_free, move_free_below, move_pageblock}
 use Rattle.hp_units.specs.Placement.{free_places}
 use Rattle.hp_buddy.specs.Buddy.{AreApart}
 use Rattle.hp_buddy.specs.Moves.{free_one, free_count}
-use Rattle.hp_lemmas.proofs.Sizes.{with_free_list-size}
-use Rattle.hp_lemmas.proofs.Places.{HasOrder, class_index-lt, with_free_list-places}
-use Rattle.hp_lemmas.proofs.Lists.{on-places, off-free}
+use Rattle.hp_units.proofs.Sizes.{with_free_list-size}
+use Rattle.hp_units.proofs.Places.{HasOrder, class_index-lt, with_free_list-places}
+use Rattle.hp_units.proofs.ListEdits.{on-places, off-free}
 use Rattle.hp_buddy.proofs.Apart.{has_order, kind-apart}
 use Rattle.hp_buddy.proofs.Moves.{Moves, moves-then, move_first, move_first-moves, is_among, staying, move_first-parted, move_first-on}
 

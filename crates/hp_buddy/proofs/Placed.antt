@@ -3,7 +3,7 @@ use Rattle.std.proofs.Common.{ℕ, arith}
 use Rattle.hp_units.specs.LayoutParts.{LayoutParts, IsLayout}
 use Rattle.hp_units.specs.Memory.{Memory}
 use Rattle.hp_units.specs.Placement.{IsWellPlaced}
-use Rattle.hp_lemmas.proofs.Placed.{IsInUse, free-within}
+use Rattle.hp_units.proofs.Placed.{IsInUse, free-within}
 use Rattle.hp_buddy.specs.Buddy.{AreApart, MayBeGiven}
 
 -- no frame is in two free blocks

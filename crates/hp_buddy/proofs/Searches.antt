@@ -4,11 +4,11 @@ use Rattle.std.proofs.lemmas.Bool.{cases_eq, false_from_ne_true}
 use Rattle.hp_units.specs.declared.rows.Class.{Class}
 use Rattle.hp_units.specs.declared.rows.Kind.{Kind}
 use Rattle.hp_units.specs.LayoutParts.{LayoutParts}
-use Rattle.hp_numbers.specs.Numbers.{ancestor}
+use Rattle.hp_units.specs.Numbers.{ancestor}
 use Rattle.hp_units.specs.Arithmetic.{buddy}
 use Rattle.hp_units.specs.Memory.{FreeAreas, free_list, class_index}
 use Rattle.hp_units.specs.FreeAreas.{is_on, order_or, least_order, greatest_order, join_order, with_front, with_halves, without_free, without_buddies}
-use Rattle.hp_links.specs.LinkedLists.{LinkedLists, IsOn, IsUnlisted, IsApart}
+use Rattle.hp_buddy.specs.LinkedLists.{LinkedLists, IsOn, IsUnlisted, IsApart}
 use Rattle.hp_buddy.specs.Buddy.{BuddyValue}
 use Rattle.hp_buddy.proofs.Linked.{contains_on}
 use Rattle.hp_buddy.proofs.Notes.{Seen}

@@ -11,9 +11,9 @@ use Rattle.hp_units.specs.Arithmetic.{pageblock_of}
 use Rattle.hp_units.specs.Memory.{FreeAreas, free_list, with_free_list, kind_of, usable_class}
 use Rattle.hp_units.specs.FreeAreas.{Taken, is_on, with_front, with_halves, least_order, greatest_order, take_first, take_front, take_block, steal_front, steal_block, with_mobility, other_mobility}
 use Rattle.hp_units.specs.Placement.{free_places, covered}
-use Rattle.hp_lemmas.proofs.Places.{list_places-cons, HasOrder, with_free_list-places, with_front-places, with_halves-places, least_order-among, IsOrderAmong, covered-in, covered-out, greatest_order-among}
-use Rattle.hp_lemmas.proofs.Geometry.{upper_half}
-use Rattle.hp_lemmas.proofs.Parts.{IsPart, tail-part}
+use Rattle.hp_units.proofs.Places.{list_places-cons, HasOrder, with_free_list-places, with_front-places, with_halves-places, least_order-among, IsOrderAmong, covered-in, covered-out, greatest_order-among}
+use Rattle.hp_units.proofs.Geometry.{upper_half}
+use Rattle.hp_units.proofs.ListParts.{IsPart, tail-part}
 use Rattle.hp_buddy.specs.Buddy.{AreApart, MayBeGiven, HasBlockMore}
 use Rattle.hp_buddy.proofs.Apart.{has_order, part-apart, front-apart, kind-apart}
 

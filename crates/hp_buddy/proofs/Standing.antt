@@ -9,11 +9,11 @@ use Rattle.hp_units.specs.Arithmetic.{pageblock_count}
 use Rattle.hp_units.specs.Memory.{free_list, class_index, class_numbered}
 use Rattle.hp_units.specs.FreeAreas.{is_on}
 use Rattle.hp_units.specs.Placement.{places_from}
-use Rattle.hp_links.specs.LinkedLists.{LinkedLists, list_at, IsOn, IsUnlisted, IsApart, successor}
+use Rattle.hp_buddy.specs.LinkedLists.{LinkedLists, list_at, IsOn, IsUnlisted, IsApart, successor}
 use Rattle.hp_buddy.specs.Buddy.{BuddyValue, AreApart, place_from, place_of, next_from}
 use Rattle.hp_units.proofs.Lists.{at_replicate}
-use Rattle.hp_lemmas.proofs.Places.{class_index-lt}
-use Rattle.hp_lemmas.proofs.Lists.{class_numbered-index}
+use Rattle.hp_units.proofs.Places.{class_index-lt}
+use Rattle.hp_units.proofs.ListEdits.{class_numbered-index}
 use Rattle.hp_buddy.proofs.Linked.{contains_on, on_contains, off_list}
 use Rattle.hp_buddy.proofs.Notes.{Seen}
 

@@ -9,7 +9,7 @@ use Rattle.hp_units.specs.Memory.{FreeAreas, free_list}
 use Rattle.hp_units.specs.FreeAreas.{is_on}
 use Rattle.hp_buddy.specs.Buddy.{AreApart}
 use Rattle.hp_buddy.specs.Moves.{move_one}
-use Rattle.hp_lemmas.proofs.Places.{HasOrder}
+use Rattle.hp_units.proofs.Places.{HasOrder}
 use Rattle.hp_buddy.proofs.Apart.{has_order}
 use Rattle.hp_buddy.proofs.Moves.{move_first, move_first-on}
 

@@ -9,7 +9,7 @@ use Rattle.hp_units.specs.FreeAreas.{is_on, without, without_free}
 use Rattle.hp_units.specs.Isolation.{move_free, move_free_below}
 use Rattle.hp_buddy.specs.Buddy.{AreApart}
 use Rattle.hp_buddy.specs.Moves.{move_one, free_one}
-use Rattle.hp_lemmas.proofs.Lists.{off-free}
+use Rattle.hp_units.proofs.ListEdits.{off-free}
 use Rattle.hp_buddy.proofs.Apart.{has_order}
 use Rattle.hp_buddy.proofs.Moves.{move_first, taken_out}
 use Rattle.hp_buddy.proofs.Pageblocks.{below_next, move_free-first, other-order}

@@ -8,7 +8,7 @@ use Rattle.hp_units.specs.Memory.{FreeAreas, free_list, class_numbered}
 use Rattle.hp_units.specs.FreeAreas.{is_on}
 use Rattle.hp_units.specs.InLayout.{AreFreeAreasOf}
 use Rattle.hp_units.specs.Placement.{covered, free_places}
-use Rattle.hp_links.specs.LinkedLists.{LinkedLists, successor}
+use Rattle.hp_buddy.specs.LinkedLists.{LinkedLists, successor}
 
 -- the layout, and its free areas
 pub record BuddyValue : Type 0 where

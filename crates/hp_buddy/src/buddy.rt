@@ -19,8 +19,8 @@ mod moves;
 mod searches;
 mod splits;
 
+use crate::Links;
 use crate::classes::list_number;
-use hp_links::Links;
 use hp_tape::{Delta, ListId, Tape};
 use hp_units::{Class, Frame, Kind, Layout, Mobility, Order, Pageblock, Zone};
 use std::alloc::{AllocError, Global};

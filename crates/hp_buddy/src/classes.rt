@@ -2,7 +2,7 @@
 ghost use Rattle.std.specs.Prelude.{◌≡◌, ◌+◌, ◌*◌, ◌^◌, ◌<◌};
 ghost use Rattle.hp_units.specs.Memory.{class_index};
 
-use hp_links::ListNumber;
+use crate::ListNumber;
 use hp_units::{Class, Frame, Order};
 
 /// Returns the number of the list of a class and an order.

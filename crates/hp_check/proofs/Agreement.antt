@@ -14,7 +14,7 @@ use Rattle.hp_scenario.specs.Gives.{◌>>=◌, or_fault}
 use Rattle.hp_scenario.specs.Scenario.{json_of, layout_or}
 use Rattle.hp_scenario.specs.declared.fault.ScenarioFault.{ScenarioFault}
 use Rattle.hp_scenario.specs.declared.fault.ScenarioFault.TheVariants.{NotJson, BadShape, Layout}
-use Rattle.hp_names.specs.Named.{NamedValue, ReadingValue, lines_from, named_in, named_of, named_with, nothing}
+use Rattle.hp_scripts.specs.Named.{NamedValue, ReadingValue, lines_from, named_in, named_of, named_with, nothing}
 use Rattle.hp_check.specs.Adds.{Adds, IsFirst, IsLayout, IsNotJson, IsRepeat, IsShape, IsWarning, ValueCause, fault_in, lacks, limit_fault_of}
 use Rattle.hp_check.specs.Calls.{IsBadCall, calls_fault, entries_in}
 use Rattle.hp_check.specs.Checking.{Agrees, Begins, HasCause, HaveCauses, IsFindingOf, IsPastLimits}

@@ -13,10 +13,10 @@ use Rattle.hp_scenario.specs.Lines.{Said, line_says}
 use Rattle.hp_scenario.specs.Names.{line_in, numbered}
 use Rattle.hp_scenario.specs.declared.fault.ScenarioFault.{ScenarioFault}
 use Rattle.hp_scenario.specs.declared.fault.ScenarioFault.TheVariants.{BadLine}
-use Rattle.hp_names.specs.Bindings.{Bound, bound_after}
-use Rattle.hp_names.specs.Named.{ReadingValue, lines_from, nothing, with_line}
-use Rattle.hp_names.specs.Plain.{plain_in}
-use Rattle.hp_names.specs.declared.plain.PlainLine.{PlainLine}
+use Rattle.hp_scripts.specs.Bindings.{Bound, bound_after}
+use Rattle.hp_scripts.specs.Named.{ReadingValue, lines_from, nothing, with_line}
+use Rattle.hp_scripts.specs.Plain.{plain_in}
+use Rattle.hp_scripts.specs.declared.plain.PlainLine.{PlainLine}
 use Rattle.hp_check.specs.Adds.{Adds, fault_in}
 use Rattle.hp_check.specs.Calls.{IsBadCall, IsBadText, bound_past, bound_text, bound_through, calls_fault, data_of, entries_in, entry_fault, items_or_none, text_fault}
 use Rattle.hp_check.specs.declared.finding.Finding.{Finding}

@@ -6,8 +6,8 @@ use Rattle.serde_json.specs.Find.{get, as_array, as_str}
 use Rattle.hp_scenario.specs.Lines.{line_says}
 use Rattle.hp_scenario.specs.declared.fault.ScenarioFault.{ScenarioFault}
 use Rattle.hp_scenario.specs.declared.fault.ScenarioFault.TheVariants.{BadLine}
-use Rattle.hp_names.specs.Bindings.{Bound, bound_after}
-use Rattle.hp_names.specs.Plain.{plain_in}
+use Rattle.hp_scripts.specs.Bindings.{Bound, bound_after}
+use Rattle.hp_scripts.specs.Plain.{plain_in}
 use Rattle.hp_check.specs.declared.finding.Finding.{Finding}
 use Rattle.hp_check.specs.declared.finding.Finding.TheVariants as finding
 use Rattle.hp_check.specs.declared.name_typos.NameTypo.{NameTypo}

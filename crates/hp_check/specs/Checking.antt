@@ -9,7 +9,7 @@ use Rattle.hp_scenario.specs.Form.{form_of}
 use Rattle.hp_scenario.specs.Scenario.{json_of}
 use Rattle.hp_scenario.specs.declared.fault.ScenarioFault.{ScenarioFault}
 use Rattle.hp_scenario.specs.declared.fault.ScenarioFault.TheVariants.{NotJson, BadShape, Layout, BadLine}
-use Rattle.hp_names.specs.Named.{NamedValue, named_in}
+use Rattle.hp_scripts.specs.Named.{NamedValue, named_in}
 use Rattle.hp_check.specs.Calls.{IsBadEntry, entries_in}
 use Rattle.hp_check.specs.Findings.{is_fault}
 use Rattle.hp_check.specs.Ranges.{parts_in}

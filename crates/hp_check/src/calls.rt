@@ -1,14 +1,14 @@
 //! The texts of `calls` that cannot be read as lines.
 ghost use Rattle.std.specs.Prelude.{◌≡◌, ◌^◌, ◌<◌, [], OnOk, map};
 ghost use Rattle.serde_json.specs.View.{view};
-ghost use Rattle.hp_names.specs.Bindings.{bound_after};
+ghost use Rattle.hp_scripts.specs.Bindings.{bound_after};
 ghost use Rattle.hp_check.specs.Adds.{Adds};
 ghost use Rattle.hp_check.specs.Calls.{AddsBadCall, IsBadCall, IsBadText, bound_past, calls_fault, entries_in, entry_fault};
 
 use crate::finding::Finding;
 use crate::name_typos::name_typo;
-use hp_names::{Bindings, Naming, plain_line};
 use hp_scenario::is_line;
+use hp_scripts::{Bindings, Naming, plain_line};
 use hp_units::Text;
 use serde_json::Value;
 use std::alloc::{AllocError, Global};

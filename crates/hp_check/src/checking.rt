@@ -3,7 +3,7 @@ ghost use Rattle.std.specs.Prelude.{◌≡◌, [], IfOk, Some, count_by, length}
 ghost use Rattle.std.specs.List.{All};
 ghost use Rattle.serde_json.specs.Errors.{IsMemory};
 ghost use Rattle.serde_json.specs.View.{view};
-ghost use Rattle.hp_names.specs.Named.{named_in, named_of};
+ghost use Rattle.hp_scripts.specs.Named.{named_in, named_of};
 ghost use Rattle.hp_check.specs.Adds.{Adds, IsNotJson, IsWarning, ValueCause, fault_in};
 ghost use Rattle.hp_check.specs.Checking.{Agrees, HasCause, HaveCauses};
 ghost use Rattle.hp_check.specs.Findings.{is_fault};
@@ -15,8 +15,8 @@ use crate::ranges::push_ranges;
 use crate::repeats::push_repeats;
 use crate::shape::push_shape;
 use crate::warnings::push_warnings;
-use hp_names::NamedScenario;
 use hp_scenario::ScenarioFault;
+use hp_scripts::NamedScenario;
 use serde_json::{Error, Value};
 use std::alloc::{AllocError, Global};
 

@@ -2,7 +2,7 @@
 //!
 //! The crate defines the findings. A text with a fault is not a scenario. With a warning, a
 //! scenario probably does not do what its writer wants. hp_scenario defines what a scenario is, and
-//! hp_names what names for results mean. The module `json_positions` finds where things are in a
+//! hp_scripts what names for results mean. The module `json_positions` finds where things are in a
 //! text. The crate runs no machine and opens no file or stream.
 //!
 //! Read specs/Checking first: what `check` promises. The texts of findings are tested (lab_tests).

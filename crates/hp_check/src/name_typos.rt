@@ -4,7 +4,7 @@ ghost use Rattle.hp_check.specs.Hints.{AddsText};
 
 use crate::quotes::write_quoted;
 use crate::typos::spelling_typo;
-use hp_names::{Bindings, NameFault, name_fault};
+use hp_scripts::{Bindings, NameFault, name_fault};
 use hp_units::Text;
 use std::alloc::{AllocError, Global};
 use strsim::generic_levenshtein;

@@ -2,6 +2,7 @@
 ghost use Rattle.std.specs.Prelude.{◌≡◌, nat_le};
 
 use hp_scenario::{Asked, Line, Work};
+use hp_scripts::work_begins;
 use hp_units::{Layout, Serial, mark_of};
 use std::alloc::{AllocError, Global};
 
@@ -74,7 +75,7 @@ impl Tally {
 
     /// Ends the setup. `lines` are all lines after it; they are in scripts.
     pub(crate) fn end_setup(&mut self, lines: &[Line]) {
-        self.any_later |= lines.iter().any(|line| may_open(&line.work));
+        self.any_later |= lines.iter().any(|line| work_begins(&line.work));
         self.in_scripts = true;
     }
 
@@ -98,16 +99,5 @@ impl Tally {
         } else {
             self.any_later
         }
-    }
-}
-
-/// Returns whether a line with this work begins an operation, or may do so.
-fn may_open(work: &Work) -> bool {
-    match work.asked() {
-        Asked::Event(event) => mark_of(event).is_opening(),
-        Asked::Plan { plan: _, turns: _ } => true,
-        Asked::NotTaken(_fault) => false,
-        Asked::Cat { path: _ } => false,
-        Asked::Seal => false,
     }
 }

@@ -10,18 +10,18 @@ use Rattle.hp_units.specs.Memory.{Memory}
 use Rattle.hp_units.specs.declared.replies.Record.{Record}
 use Rattle.hp_machine.specs.Machine.{MachineValue}
 use Rattle.hp_plain.specs.Image.{Pictured}
-use Rattle.hp_replays.specs.Replaying.{IsFault, Refutes}
-use Rattle.hp_replays.specs.Chains.{HasWrongRecords}
+use Rattle.hp_machine.specs.Replaying.{IsFault, Refutes}
+use Rattle.hp_machine.specs.Chains.{HasWrongRecords}
 use Rattle.hp_history.specs.Volumes.{IsChain, records_in, state_after}
-use Rattle.hp_replays.specs.declared.replaying.ReplayFault.{ReplayFault}
-use Rattle.hp_replays.specs.declared.replaying.ReplayFault.TheVariants as replaying
+use Rattle.hp_machine.specs.declared.replaying.ReplayFault.{ReplayFault}
+use Rattle.hp_machine.specs.declared.replaying.ReplayFault.TheVariants as replaying
 use Rattle.hp_history.specs.declared.volumes.Volume.{Volume}
-use Rattle.hp_replays.proofs.Replays.{refutes}
+use Rattle.hp_machine.proofs.Replays.{refutes}
 use Rattle.hp_scenario.specs.declared.lines.Line.{Line}
 use Rattle.hp_shared.specs.Volumes.{IsSealOf}
 use Rattle.hp_text.specs.State.{newline}
-use Rattle.hp_workers.specs.Seals.{AreSealed}
-use Rattle.hp_workers.specs.declared.lines.LineEnd.{LineEnd}
+use Rattle.hp_shared.specs.Seals.{AreSealed}
+use Rattle.hp_shared.specs.declared.lines.LineEnd.{LineEnd}
 use Rattle.hp_commands.specs.Audits.{HasAuditFault, HasWrongRecord, IsAudited, LeadsToBase, LeadsToState}
 use Rattle.hp_commands.specs.Faults.{IsFaultOf, IsRefuted, replay_fault_from}
 use Rattle.hp_commands.specs.Runs.{IsRunOf, IsWorkedOff, SealsSome, records_line, scripts_in}

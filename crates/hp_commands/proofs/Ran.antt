@@ -19,12 +19,12 @@ use Rattle.hp_shared.specs.declared.closing.CloseFault.TheVariants as closing
 use Rattle.hp_shared.specs.Closing.{HasCause, IsClosed}
 use Rattle.hp_shared.specs.Shared.{SeatValue, first_seat, first_seats}
 use Rattle.hp_shared.specs.Volumes.{IsMiscounted}
-use Rattle.hp_workers.specs.declared.fault.RunFault.{RunFault}
-use Rattle.hp_workers.specs.declared.fault.RunFault.TheVariants as running
-use Rattle.hp_workers.specs.declared.lines.LineEnd.{LineEnd}
-use Rattle.hp_workers.specs.Seals.{seals_in_all}
-use Rattle.hp_workers.specs.Workers.{AreGathered, IsRunEnd}
-use Rattle.hp_workers.proofs.Fulls.{reach_where_full}
+use Rattle.hp_shared.specs.declared.fault.RunFault.{RunFault}
+use Rattle.hp_shared.specs.declared.fault.RunFault.TheVariants as running
+use Rattle.hp_shared.specs.declared.lines.LineEnd.{LineEnd}
+use Rattle.hp_shared.specs.Seals.{seals_in_all}
+use Rattle.hp_shared.specs.Workers.{AreGathered, IsRunEnd}
+use Rattle.hp_shared.proofs.FullRuns.{reach_where_full}
 use Rattle.hp_commands.specs.Faults.{IsFaultOf, IsUnfinished, IsWorkFault, close_fault_from, fault_from, run_fault_from}
 use Rattle.hp_commands.specs.Runs.{IsRunOf, IsWorkedOff}
 use Rattle.hp_commands.specs.declared.fault.ProgramFault.{ProgramFault}

@@ -12,12 +12,12 @@ use Rattle.hp_shared.specs.Closing.{handed_in}
 use Rattle.hp_shared.specs.Comparing.{HasEach}
 use Rattle.hp_shared.specs.Shared.{SeatValue, first_seat, first_seats}
 use Rattle.hp_shared.proofs.Comparisons.{same_item}
-use Rattle.hp_workers.specs.declared.fault.RunFault.{RunFault}
-use Rattle.hp_workers.specs.declared.fault.RunFault.TheVariants.{NotStarted}
-use Rattle.hp_workers.specs.declared.lines.LineEnd.{LineEnd}
-use Rattle.hp_workers.specs.Workers.{AreGathered, AreWorkers}
-use Rattle.hp_workers.proofs.HandedOut.{workers_count}
-use Rattle.hp_workers.proofs.LineRuns.{worked_cpu}
+use Rattle.hp_shared.specs.declared.fault.RunFault.{RunFault}
+use Rattle.hp_shared.specs.declared.fault.RunFault.TheVariants.{NotStarted}
+use Rattle.hp_shared.specs.declared.lines.LineEnd.{LineEnd}
+use Rattle.hp_shared.specs.Workers.{AreGathered, AreWorkers}
+use Rattle.hp_shared.proofs.HandedOut.{workers_count}
+use Rattle.hp_shared.proofs.LineRuns.{worked_cpu}
 
 first_seat_at : (cpus place : ℕ) → place < cpus → slice_get (first_seats cpus) place ≡ Some (first_seat place)
 first_seat_at cpus place inside =

@@ -3,12 +3,12 @@
 use Rattle.std.specs.Prelude.{ℕ, ◌≡◌, ◌⊎◌, List}
 use Rattle.hp_units.specs.History.{IsLegal, value_of}
 use Rattle.hp_machine.specs.Machine.{MachineValue}
-use Rattle.hp_replays.specs.Replaying.{IsFault}
+use Rattle.hp_machine.specs.Replaying.{IsFault}
 use Rattle.hp_history.specs.Volumes.{IsChain, state_after}
-use Rattle.hp_replays.specs.Chains.{IsChainFault}
-use Rattle.hp_replays.specs.declared.replaying.ReplayFault.{ReplayFault}
-use Rattle.hp_replays.specs.declared.replaying.ReplayFault.TheVariants as replaying
-use Rattle.hp_replays.specs.declared.chains.ChainFault.TheVariants as chain
+use Rattle.hp_machine.specs.Chains.{IsChainFault}
+use Rattle.hp_machine.specs.declared.replaying.ReplayFault.{ReplayFault}
+use Rattle.hp_machine.specs.declared.replaying.ReplayFault.TheVariants as replaying
+use Rattle.hp_machine.specs.declared.chains.ChainFault.TheVariants as chain
 use Rattle.hp_history.specs.declared.volumes.Volume.{Volume}
 use Rattle.hp_commands.specs.declared.fault.ProgramFault.{ProgramFault}
 use Rattle.hp_commands.specs.declared.fault.ProgramFault.TheVariants.{OutOfMemory, WrongReply, WrongSerial, AuditDiffers, BrokenChain}

@@ -3,10 +3,10 @@ use Rattle.std.specs.Prelude.{◌≡◌, ◌≢◌, ◌⊎◌, ℕ, ◌<◌, Lis
 use Rattle.hp_units.specs.LayoutParts.{LayoutParts}
 use Rattle.hp_machine.specs.Machine.{MachineValue}
 use Rattle.hp_history.specs.declared.volumes.Volume.{Volume}
-use Rattle.hp_replays.specs.declared.replaying.ReplayFault.{ReplayFault}
-use Rattle.hp_replays.specs.declared.replaying.ReplayFault.TheVariants as replaying
-use Rattle.hp_replays.specs.declared.chains.ChainFault.{ChainFault}
-use Rattle.hp_replays.specs.declared.chains.ChainFault.TheVariants as chain
+use Rattle.hp_machine.specs.declared.replaying.ReplayFault.{ReplayFault}
+use Rattle.hp_machine.specs.declared.replaying.ReplayFault.TheVariants as replaying
+use Rattle.hp_machine.specs.declared.chains.ChainFault.{ChainFault}
+use Rattle.hp_machine.specs.declared.chains.ChainFault.TheVariants as chain
 use Rattle.hp_scenario.specs.declared.fault.ScenarioFault.{ScenarioFault}
 use Rattle.hp_scenario.specs.declared.fault.ScenarioFault.TheVariants as scenario
 use Rattle.hp_scenario.specs.declared.lines.Line.{Line}
@@ -19,11 +19,11 @@ use Rattle.hp_shared.specs.declared.closing.CloseFault.TheVariants as closing
 use Rattle.hp_streams.specs.Reading.{limit}
 use Rattle.hp_streams.specs.declared.reading.ReadFault.{ReadFault}
 use Rattle.hp_streams.specs.declared.reading.ReadFault.TheVariants as reading
-use Rattle.hp_workers.specs.Seals.{seals_in_all}
-use Rattle.hp_workers.specs.Workers.{AreGathered, IsRunEnd}
-use Rattle.hp_workers.specs.declared.lines.LineEnd.{LineEnd}
-use Rattle.hp_workers.specs.declared.fault.RunFault.{RunFault}
-use Rattle.hp_workers.specs.declared.fault.RunFault.TheVariants as running
+use Rattle.hp_shared.specs.Seals.{seals_in_all}
+use Rattle.hp_shared.specs.Workers.{AreGathered, IsRunEnd}
+use Rattle.hp_shared.specs.declared.lines.LineEnd.{LineEnd}
+use Rattle.hp_shared.specs.declared.fault.RunFault.{RunFault}
+use Rattle.hp_shared.specs.declared.fault.RunFault.TheVariants as running
 use Rattle.hp_commands.specs.declared.fault.ProgramFault.{ProgramFault}
 use Rattle.hp_commands.specs.declared.fault.ProgramFault.TheVariants.{ReadFailed, TooLong, NotJson, BadShape, Layout, BadLine, NotForRun, OutOfMemory, NotStarted, SeatMissing, Mismatch, WrongReply, WrongSerial, AuditDiffers, WriteFailed, BrokenChain}
 use Rattle.hp_commands.specs.declared.commands.Command.{Command}

@@ -3,7 +3,7 @@ use Rattle.std.specs.Prelude.{◌≡◌, ◌⊎◌, ℕ, List, Result, Ok, Err}
 use Rattle.hp_machine.specs.Machine.{MachineValue}
 use Rattle.hp_requests.specs.declared.fault.ControlFault.{ControlFault}
 use Rattle.hp_requests.specs.declared.fault.ControlFault.TheVariants.{OutOfMemory}
-use Rattle.hp_control.specs.Reads.{file_text}
+use Rattle.hp_text.specs.Reads.{file_text}
 use Rattle.hp_text.specs.Files.{read_fault_line}
 
 -- the text of a file, or the line with the reason that there is none

@@ -18,10 +18,10 @@ use Rattle.hp_text.specs.Answers.{bare_reply_line, fault_line, sealed_line}
 use Rattle.hp_text.specs.Files.{write_fault_line}
 use Rattle.hp_text.specs.Plans.{plan_line}
 use Rattle.hp_text.specs.State.{newline, texts_below}
-use Rattle.hp_workers.specs.declared.lines.LineEnd.{LineEnd}
-use Rattle.hp_workers.specs.declared.lines.LineEnd.TheVariants.{Reply as Replied, Fault as Faulted, Plan as Planned, Control as Untaken, Sealed}
-use Rattle.hp_workers.specs.Seals.{AreInOrder, seals_in_all}
-use Rattle.hp_workers.specs.Workers.{AreWorkers, ReachWhereFull}
+use Rattle.hp_shared.specs.declared.lines.LineEnd.{LineEnd}
+use Rattle.hp_shared.specs.declared.lines.LineEnd.TheVariants.{Reply as Replied, Fault as Faulted, Plan as Planned, Control as Untaken, Sealed}
+use Rattle.hp_shared.specs.Seals.{AreInOrder, seals_in_all}
+use Rattle.hp_shared.specs.Workers.{AreWorkers, ReachWhereFull}
 use Rattle.hp_commands.specs.Audits.{IsAudited}
 
 -- ---- the text

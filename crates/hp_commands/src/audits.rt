@@ -10,8 +10,7 @@ ghost use Rattle.hp_commands.specs.declared.commands.Command.TheVariants.{Audit}
 use crate::fault::ProgramFault;
 use crate::runs::{work_off, write_records};
 use hp_history::Volume;
-use hp_machine::Machine;
-use hp_replays::{audit_chain, replay_from};
+use hp_machine::{Machine, audit_chain, replay_from};
 use hp_shared::Closed;
 use std::alloc::Global;
 use std::mem::forget;

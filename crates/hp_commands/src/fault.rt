@@ -4,12 +4,11 @@ ghost use Rattle.std.specs.Prelude.{◌≡◌, ◌++◌, Some, codes};
 ghost use Rattle.hp_commands.specs.FaultText.{fault_text, said_text};
 ghost use Rattle.hp_commands.specs.declared.fault.ProgramFault.TheVariants.{OutOfMemory};
 
-use hp_replays::{ChainFault, ReplayFault};
+use hp_machine::{ChainFault, ReplayFault};
 use hp_scenario::ScenarioFault;
-use hp_shared::CloseFault;
+use hp_shared::{CloseFault, RunFault};
 use hp_streams::ReadFault;
 use hp_units::{Cpu, LayoutFault, Serial};
-use hp_workers::RunFault;
 use std::alloc::AllocError;
 use std::error::Error;
 use std::fmt;

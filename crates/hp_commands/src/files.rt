@@ -3,9 +3,8 @@ ghost use Rattle.std.specs.Prelude.{OnOk, string_bytes};
 ghost use Rattle.hp_commands.specs.Files.{WritesFile};
 ghost use Rattle.hp_commands.specs.Serial.{GrowsBy};
 
-use hp_control::text_in;
 use hp_machine::UnrecordedMachine;
-use hp_text::write_read_fault;
+use hp_text::{text_in, write_read_fault};
 use std::alloc::{AllocError, Global};
 
 /// Reads a control file, and writes its text, or why there is none. Makes no record.

@@ -14,11 +14,7 @@ pub record IsReadUpTo (rest : List (Bor (List ℕ))) (i : ℕ) (seen : List Obse
 -- one more line
 pub take_text : (rest : List (Bor (List ℕ))) (i : ℕ) (d : Bor (List ℕ)) → i < length rest
     → take (i + 1) (map (λ x. x.now) rest) ≡ take i (map (λ x. x.now) rest) ++ (get_or rest i d).now ∷ []
-take_text rest i d within =
-    take-map (λ (x : Bor (List ℕ)). x.now) (i + 1) rest
-    ∙ (map_more (λ (x : Bor (List ℕ)). x.now) rest i d within
-    ∙ ap (λ (z : List (List ℕ)). z ++ (get_or rest i d).now ∷ [])
-    (sym (take-map (λ (x : Bor (List ℕ)). x.now) i rest)))
+take_text rest i d within = simp take-map (map_more (λ (x : Bor (List ℕ)). x.now) rest i d within)
 
 -- one more answer
 pub read_more : (rest : List (Bor (List ℕ))) (i : ℕ) (d : Bor (List ℕ)) (old new : List ObservedLine)
@@ -27,30 +23,9 @@ pub read_more : (rest : List (Bor (List ℕ))) (i : ℕ) (d : Bor (List ℕ)) (o
 read_more rest i d old new within pushed so_far = record {
   count = omega (arith, simp length-append at (ap length pushed.2), so_far.count);
   room = omega (arith, within);
-  lines = all_lines;
-  plain = plain;
+  lines = rw (pushed.2, take_text rest i d within, so_far.lines, pushed.1, map-append);
+  plain = rw (pushed.2, map-append, so_far.plain);
 }
-  where
-    one : ObservedLine
-    one = untimed pushed.0
-
-    texts : take (i + 1) (map (λ (x : Bor (List ℕ)). x.now) rest)
-        ≡ take i (map (λ (x : Bor (List ℕ)). x.now) rest) ++ (get_or rest i d).now ∷ []
-    texts = take_text rest i d within
-
-    all_lines : take (i + 1) (map (λ (x : Bor (List ℕ)). x.now) rest) ≡ seen_lines new
-    all_lines =
-        texts
-        ∙ (ap (λ (z : List (List ℕ)). z ++ (get_or rest i d).now ∷ []) so_far.lines
-        ∙ (ap (λ (z : List ℕ). seen_lines old ++ z ∷ []) pushed.1
-        ∙ (sym (map-append (λ (x : ObservedLine). answer_text x.answer) old (one ∷ []))
-        ∙ ap seen_lines (sym pushed.2))))
-
-    plain : AreUntimed new
-    plain =
-        ap (map without_times) pushed.2
-        ∙ (map-append without_times old (one ∷ [])
-        ∙ (ap (λ (z : List ObservedLine). z ++ one ∷ []) so_far.plain ∙ sym pushed.2))
 
 -- what the processors' answers keep
 pub record AreReadUpTo {A : Type 0} (texts : List (Bor (List ℕ))) (scripts : List (List A)) (cpu place : ℕ)
@@ -64,16 +39,10 @@ pub record AreReadUpTo {A : Type 0} (texts : List (Bor (List ℕ))) (scripts : L
 -- the lines of one more processor
 pub run_more : (cpu : ℕ) (seen : List (List ObservedLine)) (one : List ObservedLine)
     → run_lines cpu (seen ++ one ∷ []) ≡ run_lines cpu seen ++ script_lines (cpu + length seen) one
-run_more cpu [] one =
-    append-nil (script_lines cpu one) ∙ ap (λ n. script_lines n one) (sym (add-zero cpu))
+run_more cpu [] one = rw (append-nil, add-zero)
 run_more cpu (s ∷ seen) one =
-    ap (λ z. script_lines cpu s ++ z) (run_more (suc cpu) seen one)
-    ∙ (sym
-    (append_assoc (script_lines cpu s) (run_lines (suc cpu) seen) (script_lines (suc cpu + length seen) one))
-    ∙ ap (λ n. (script_lines cpu s ++ run_lines (suc cpu) seen) ++ script_lines n one) after)
-  where
-    after : suc cpu + length seen ≡ cpu + suc (length seen)
-    after = omega arith
+    let after : suc cpu + length seen ≡ cpu + suc (length seen) = omega arith in
+    rw (run_more (suc cpu) seen one, after) (simp append_assoc)
 
 -- one more processor
 pub script_more : {A : Type 0} (texts : List (Bor (List ℕ))) (scripts : List (List A)) (cpu place count : ℕ)
@@ -83,76 +52,27 @@ pub script_more : {A : Type 0} (texts : List (Bor (List ℕ))) (scripts : List (
     → AreReadUpTo texts scripts cpu place old
     → AreReadUpTo texts scripts (cpu + 1) (place + (count + 1)) new
 script_more {A} texts scripts cpu place count old new one script within this size read same so_far = record {
-  sizes = sizes;
+  sizes =
+      rw (
+        same,
+        map-append,
+        so_far.sizes,
+        map_more (λ (z : List A). length z) scripts cpu script within,
+        ← this,
+        ← size,
+        read.1,
+      );
   below = omega (arith, within);
-  room = room;
-  lines = lines;
-  plain = plain;
+  room =
+      omega (arith, read.1, so_far.room, simp (length-append, length-map, length-drop) at (ap length read.0));
+  lines =
+      rw (so_far.lines, read.0, drop-map, drop-drop, same, run_more 0 old one, number) (simp append_assoc);
+  plain = rw (same, map-append, so_far.plain, read.2);
 }
   where
-    rest : List (List ℕ)
-    rest = map (λ (x : Bor (List ℕ)). x.now) (drop place texts)
-
-    same_count : length one ≡ length (get_or scripts cpu script)
-    same_count = read.1 ∙ (size ∙ ap (λ (z : List A). length z) this)
-
-    number : length old ≡ cpu
+    number : 0 + length old ≡ cpu
     number =
-        sym (length-map old (λ (z : List ObservedLine). length z))
-        ∙ (ap (λ (z : List ℕ). length z) so_far.sizes
-        ∙ (length-map (take cpu scripts) (λ (z : List A). length z)
-        ∙ length-take-le cpu scripts so_far.below))
-
-    sizes : map (λ (z : List ObservedLine). length z) new
-        ≡ map (λ (z : List A). length z) (take (cpu + 1) scripts)
-    sizes =
-        ap (λ (z : List (List ObservedLine)). map (λ (y : List ObservedLine). length y) z) same
-        ∙ (map-append (λ (z : List ObservedLine). length z) old (one ∷ [])
-        ∙ (ap (λ (z : List ℕ). z ++ length one ∷ []) so_far.sizes
-        ∙ (ap (λ (n : ℕ). map (λ (z : List A). length z) (take cpu scripts) ++ n ∷ []) same_count
-        ∙ sym (map_more (λ (z : List A). length z) scripts cpu script within))))
-
-    rest_length : length rest ≡ length texts - place
-    rest_length = length-map (drop place texts) (λ (x : Bor (List ℕ)). x.now) ∙ length-drop place texts
-
-    lines_length : length (script_lines cpu one) ≡ length one + 1
-    lines_length =
-        let tail : length (seen_lines one) ≡ length one
-        = length-map one (λ (x : ObservedLine). answer_text x.answer) in
-        omega (arith, tail)
-
-    room : place + (count + 1) ≤ length texts
-    room =
-        let whole : length rest ≡ length (script_lines cpu one) + length (drop (count + 1) rest)
-        = ap (λ (z : List (List ℕ)). length z) read.0
-        ∙ length-append (script_lines cpu one) (drop (count + 1) rest) in
-        let some : length (script_lines cpu one) ≤ length rest = omega (arith, whole) in
-        omega (arith, some, rest_length, lines_length, read.1, so_far.room)
-
-    later : drop (count + 1) rest ≡ map (λ (x : Bor (List ℕ)). x.now) (drop (place + (count + 1)) texts)
-    later =
-        drop-map (λ (x : Bor (List ℕ)). x.now) (count + 1) (drop place texts)
-        ∙ ap (λ (z : List (Bor (List ℕ))). map (λ (x : Bor (List ℕ)). x.now) z)
-        (drop-drop (count + 1) place texts)
-
-    front : run_lines 0 new ≡ run_lines 0 old ++ script_lines cpu one
-    front =
-        ap (λ (z : List (List ObservedLine)). run_lines 0 z) same
-        ∙ (run_more 0 old one
-        ∙ ap (λ (n : ℕ). run_lines 0 old ++ script_lines n one) (zero-add (length old) ∙ number))
-
-    lines : map (λ (x : Bor (List ℕ)). x.now) texts
-        ≡ run_lines 0 new ++ map (λ (x : Bor (List ℕ)). x.now) (drop (place + (count + 1)) texts)
-    lines =
-        so_far.lines
-        ∙ (ap (λ (z : List (List ℕ)). run_lines 0 old ++ z) read.0
-        ∙ (sym (append_assoc (run_lines 0 old) (script_lines cpu one) (drop (count + 1) rest))
-        ∙ (ap (λ (z : List (List ℕ)). z ++ drop (count + 1) rest) (sym front)
-        ∙ ap (λ (z : List (List ℕ)). run_lines 0 new ++ z) later)))
-
-    plain : AreAllUntimed new
-    plain =
-        ap (λ (z : List (List ObservedLine)). map (map without_times) z) same
-        ∙ (map-append (map without_times) old (one ∷ [])
-        ∙ (ap (λ (z : List (List ObservedLine)). z ++ map without_times one ∷ []) so_far.plain
-        ∙ (ap (λ (z : List ObservedLine). old ++ z ∷ []) read.2 ∙ sym same)))
+        omega (
+          arith,
+          simp (length-map, length-take-le cpu scripts so_far.below) at (ap length so_far.sizes),
+        )

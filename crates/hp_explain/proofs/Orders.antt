@@ -8,7 +8,7 @@ use Rattle.hp_units.specs.declared.events.Event.{Event}
 use Rattle.hp_schedules.proofs.Plays.{from_news, plays_one, stays_none}
 use Rattle.hp_states.specs.Rooms.{is_full_after}
 use Rattle.std.specs.Prelude.{◌⊎◌}
-use Rattle.std.proofs.lemmas.Bool.{cases_lt}
+use Rattle.std.proofs.lemmas.Bool.{cases_lt, false≢true}
 use Rattle.std.proofs.lemmas.Option.{none-some, same_Some}
 use Rattle.hp_units.specs.declared.replies.Record.{Record}
 use Rattle.hp_schedules.specs.LineAnswers.{answers_at, answers_in}
@@ -35,61 +35,28 @@ none_answered g cpu = by_script (slice_get g.scripts cpu)
     by_script None = refl
     by_script (Some lines) = none_begun g.layout.cpus lines
 
-none_before : (before later : List Record) (r : Record) → [] ≡ before ++ r ∷ later → ⊥
-none_before [] later r is = cc
-none_before (x ∷ before) later r is = cc
-
 pub start_explained : (g : Setting) (seen : List (List ObservedLine)) → IsExplained g seen []
 unfolding plays
 start_explained g seen = record {
   news = [];
   played = refl;
   few = omega arith;
-  answered = λ cpu line answer is.
-      absurd (none-some answer
-      (ap (λ (xs : List (Option LineAnswer)). slice_get xs line) (sym (none_answered g cpu)) ∙ is));
-  timed = λ before r later is. absurd (none_before before later r is);
+  answered = λ cpu line answer is. absurd (none-some answer (rw (none_answered g cpu) at is));
+  timed = λ before r later is. absurd (omega (arith, simp length-append at (ap length is)));
 }
 
 -- ---- at a place that is asked
 
 -- all lines are finished
 pub order_met : (g : Setting) (seen : List (List ObservedLine)) (schedule : List ℕ) (news : List Record)
-    → schedule ≡ schedule_of news → plays g (schedule_of news) ≡ Some news → IsExplained g seen schedule
-    → ((cpu : ℕ) → next_call g cpu news ≡ None) → Explains g seen schedule
-order_met g seen schedule news is played explained over = record {
+    → plays g schedule ≡ Some news → IsExplained g seen schedule → ((cpu : ℕ) → next_call g cpu news ≡ None)
+    → Explains g seen schedule
+order_met g seen schedule news played explained over = record {
   begun = explained;
-  over = λ cpu. ap (next_call g cpu) same ∙ over cpu;
+  over = λ cpu. rw (same_Some explained.news news (sym explained.played ∙ played)) (over cpu);
 }
-  where
-    same : explained.news ≡ news
-    same = same_Some explained.news news (sym explained.played ∙ (ap (plays g) is ∙ played))
-
--- some is not, and the schedule is no longer than the longest
-pub beginning_missed : (g : Setting) (seen : List (List ObservedLine)) (room : ℕ) (longest schedule : List ℕ)
-    (news : List Record)
-    → schedule ≡ schedule_of news → plays g (schedule_of news) ≡ Some news
-    → (((cpu : ℕ) → next_call g cpu news ≡ None) → ⊥) → length schedule ≤ length longest
-    → (aim_of g seen room longest).sought schedule → ⊥
-beginning_missed g seen room longest schedule news is played asks short (inl order) =
-    asks (λ cpu. ap (next_call g cpu) (sym same) ∙ order.over cpu)
-  where
-    same : order.begun.news ≡ news
-    same = same_Some order.begun.news news (sym order.begun.played ∙ (ap (plays g) is ∙ played))
-beginning_missed g seen room longest schedule news is played asks short (inr longer) =
-    omega (arith, short, longer.1)
 
 -- ---- results
-
--- no longer beginning is explained
-none_longer : (g : Setting) (seen : List (List ObservedLine)) (room : ℕ) (longest : List ℕ)
-    → ((s : List ℕ) → (aim_of g seen room longest).sought s → ⊥) → (s : List ℕ) → IsExplained g seen s
-    → length s ≤ length longest
-none_longer g seen room longest none s explained = by_length (cases_lt (length longest) (length s))
-  where
-    by_length : (length longest < length s) ⊎ (length s ≤ length longest) → length s ≤ length longest
-    by_length (inl more) = absurd (none s (inr (explained, more)))
-    by_length (inr few) = few
 
 -- none explains it
 pub none_found : (g : Setting) (seen later : List (List ObservedLine)) (room : ℕ) (longest : List ℕ)
@@ -99,13 +66,14 @@ pub none_found : (g : Setting) (seen later : List (List ObservedLine)) (room : �
 none_found g seen later room longest same found begun = (
   λ s order. none s (inl order),
   begun,
-  none_longer g seen room longest none,
+  λ s explained. elim (cases_lt (length longest) (length s)) [
+    | inl more ↦ absurd (none s (inr (explained, more)))
+    | inr few ↦ few
+  ],
 )
   where
     none : (s : List ℕ) → (aim_of g seen room longest).sought s → ⊥
-    none =
-        subst (λ (x : List (List ObservedLine)). (s : List ℕ) → (aim_of g x room longest).sought s → ⊥) same
-        found.0
+    none = rw (← same) found.0
 
 -- ---- room
 
@@ -121,25 +89,14 @@ calls_many g (cpu ∷ rest) h end is =
         → ((r : Record) → from_news g (h ++ r ∷ []) rest ≡ Some end
         → length end ≡ length (h ++ r ∷ []) + length rest)
         → length end ≡ length h + length (cpu ∷ rest)
-    by_call None asked later =
-        absurd (none-some end
-        (sym (ap (λ (o : Option (List Record)). fold (play_one g) o rest) (plays_one g h cpu None asked)
-        ∙ stays_none g rest) ∙ is))
+    by_call None asked later = absurd (none-some end (rw (asked, stays_none g rest) at is))
     by_call (Some e) asked later =
-        let r = record_of_call g h cpu e in
-        omega (
-          arith,
-          later r
-              (sym (ap (λ (o : Option (List Record)). fold (play_one g) o rest)
-              (plays_one g h cpu (Some e) asked)) ∙ is),
-          length_push h r,
-        )
+        let r = record_of_call g h cpu e in omega (arith, later r (rw asked at is), length_push h r)
 
 calls_of : (g : Setting) (schedule : List ℕ) (news : List Record) → plays g schedule ≡ Some news
     → length news ≡ length schedule
 unfolding plays
-calls_of g schedule news played =
-    let many = calls_many g schedule [] news played in omega (arith, many)
+calls_of g schedule news played = omega (arith, calls_many g schedule [] news played)
 
 -- while fewer calls were made than there is room for, the history is not full
 room_stays : (g : Setting) (news : List Record) → length news < calls_left g → is_full_after g news ≡ false
@@ -155,10 +112,6 @@ pub explain_cause : (g : Setting) (later : List (List ObservedLine)) (left : ℕ
     → IsSearchCause g (aim_of g later left longest) fault → IsExplainCause fault
 explain_cause g later left longest HistoryFull full =
     let many = calls_of g full.place full.call.news full.call.played in
-    no_room (sym (room_stays g full.call.news
+    false≢true (sym (room_stays g full.call.news
     (omega (arith, many, full.tried.1, full.admitted.1))) ∙ full.call.full)
-  where
-    no_room : false ≡ true → ⊥
-    no_room is = cc
-explain_cause g later left longest OutOfMemory full = tt
-explain_cause g later left longest Stopped full = tt
+explain_cause g later left longest fault full = tt

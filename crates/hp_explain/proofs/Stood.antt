@@ -16,25 +16,7 @@ use Rattle.hp_explain.specs.declared.standing.Next.{Next}
 use Rattle.hp_explain.specs.declared.standing.Next.TheVariants.{Answered, Finished, GoesOn, HistoryFull, Waits}
 use Rattle.hp_explain.specs.declared.standing.Standing.{Standing}
 
--- ---- a call, and back
-
--- the call that was made is taken back
-pub came_back : (p q r : PathValue) (cpu : ℕ) (back : Option ℕ) → IsForth p cpu true q → IsBack q back r
-    → r ≡ p
-came_back p q r cpu None forth back =
-    absurd (omega (
-      arith,
-      length_push p.news (record_of_call p.setting p.news cpu forth.0),
-      ap length (sym (ap (λ (x : PathValue). x.news) forth.3) ∙ back.0),
-    ))
-came_back p q r cpu (Some last) forth back =
-    let same = sym back.2 ∙ forth.3 in
-    ap (λ (g : Setting). path_of g r.news) (ap (λ (x : PathValue). x.setting) same)
-    ∙ ap (path_of p.setting)
-    (same_from_push r.news p.news back.0 (record_of_call p.setting p.news cpu forth.0)
-    (ap (λ (x : PathValue). x.news) same)).0
-
--- what it gave its line
+-- what a call gave its line
 pub answered_forth : (p q : PathValue) (cpu : ℕ) (next : Next) → IsForth p cpu true q
     → ((before : List Record) (r : Record) → q.news ≡ before ++ r ∷ []
     → IsLatestAnswer q.setting r.cpu before q.news next) → IsNextAnswer p.setting p.news cpu next
@@ -50,11 +32,9 @@ answered_forth p q cpu next forth latest =
 
 pub next_answered : (g : Setting) (seen : List (List ObservedLine)) (news : List Record) (cpu : ℕ)
     (next : Next) → MayRun g seen news cpu → IsNextAnswer g news cpu next → IsNext g seen news cpu next
-next_answered g seen news cpu Finished runs is = absurd is.2
-next_answered g seen news cpu (Waits u) runs is = absurd is.2
 next_answered g seen news cpu (Answered answer) runs is = (runs, is)
 next_answered g seen news cpu GoesOn runs is = (runs, is)
-next_answered g seen news cpu HistoryFull runs is = absurd is.2
+next_answered g seen news cpu next runs is = absurd is.2
 
 -- ---- one more
 
@@ -65,23 +45,15 @@ pub stand_more : (g : Setting) (seen : List (List ObservedLine)) (news : List Re
     → AreStandingsBelow g seen news (cpus + 1) (all ++ s ∷ [])
 stand_more g seen news cpus all s before own = (
   length_push all s ∙ ap (λ (n : ℕ). n + 1) before.0,
-  λ cpu x here. by_place cpu x (get_push_cases all s x cpu here),
+  λ cpu x here. elim (get_push_cases all s x cpu here) [
+    | inl old ↦ before.1 cpu x old
+    | inr new ↦ rw (← new.1, new.0, before.0) own
+  ],
 )
-  where
-    by_place : (cpu : ℕ) (x : Standing) → (slice_get all cpu ≡ Some x) ⊎ ((cpu ≡ length all) × (s ≡ x))
-        → IsStanding g seen news cpu x
-    by_place cpu x (inl old) = before.1 cpu x old
-    by_place cpu x (inr new) =
-        subst (λ (y : Standing). IsStanding g seen news cpu y) new.1
-        (subst (λ (c : ℕ). IsStanding g seen news c s) (sym (new.0 ∙ before.0)) own)
 
 -- one call more
 pub played_further : (p q : PathValue) (cpu at : ℕ) (schedule : List ℕ)
     → IsForth p cpu true q → slice_get schedule at ≡ Some cpu → schedule_of p.news ≡ take at schedule
     → schedule_of q.news ≡ take (at + 1) schedule
 played_further p q cpu at schedule forth here front =
-    let r = record_of_call p.setting p.news cpu forth.0 in
-    ap (λ (x : PathValue). schedule_of x.news) forth.3
-    ∙ (map-append (λ (x : Record). x.cpu) p.news (r ∷ [])
-    ∙ (ap (λ (c : ℕ). schedule_of p.news ++ c ∷ []) (caller p.setting p.news cpu forth.0)
-    ∙ (ap (λ (s : List ℕ). s ++ cpu ∷ []) front ∙ sym (take_one schedule at cpu here))))
+    rw (forth.3, map-append, caller p.setting p.news cpu forth.0, front, ← take_one schedule at cpu here)

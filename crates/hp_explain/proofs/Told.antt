@@ -28,17 +28,9 @@ pub explained_on : (form : ScheduleForm) (names : List (List ℕ)) (before : Lis
     → IsExplanation g seen what → IsExplanationTold form names before g what text result
     → IsExplainedOn form names before g seen text result
 explained_on form names before g seen (found.Explained s) text result is told =
-    subst (IsExplainedOn form names before g seen text) (sym told.1) (s.items, is.0, is.1, is.2, told.0)
+    rw told.1 (s.items, is.0, is.1, is.2, told.0)
 explained_on form names before g seen (found.Unexplained s) text result is told =
-    subst (IsExplainedOn form names before g seen text) (sym told) (s.items, is.0, is.1, is.2)
-
--- the answers that were read are those of the scripts
-pub answers_are : (answers : List ℕ) (given scripts : List (List Step)) (seen : List (List ObservedLine))
-    → given ≡ scripts → map length seen ≡ map length given
-    → (are_objects answers ≡ false → IsRunText answers seen)
-    → (are_objects answers ≡ true → AreObjectsOf answers seen) → AreAnswers answers scripts seen
-answers_are answers given scripts seen is sizes words objects =
-    (sizes ∙ ap (λ (ss : List (List Step)). map length ss) is, words, objects)
+    rw told (s.items, is.0, is.1, is.2)
 
 -- a call fails in the search
 pub not_searched : (input answers : List ℕ) (p : Prepared) (fault : ExploreFault) (told : LabFault)

@@ -4,7 +4,7 @@ ghost use Rattle.hp_explain.specs.Explainers.{IsMarked};
 ghost use Rattle.hp_explain.specs.Explaining.{AreAllOverBefore, HasSeen, MayRun};
 
 use crate::observed::Observed;
-use hp_explore::{Aim, Path, is_over, push_all_causes};
+use hp_explore::{Aim, Path, Schedule, is_over, push_all_causes};
 use hp_schedules::FinishedLine;
 use hp_units::Cpu;
 use std::alloc::{AllocError, Global};
@@ -88,7 +88,7 @@ impl<'a> Aim for Explainer<'a> {
         new.room new.longest.items };
 
     /// A call for which the history has no room is not tried.
-    fn may_try(&self, path: &Path<'_>, schedule: &[Cpu], cpu: u32) -> bool {
+    fn may_try(&self, path: &Path<'_>, schedule: &Schedule, cpu: u32) -> bool {
         path.is_played();
         if schedule.len() as u64 >= self.room {
             return false;
@@ -96,10 +96,10 @@ impl<'a> Aim for Explainer<'a> {
         self.may_run(path, cpu)
     }
 
-    fn admits(&self, path: &Path<'_>, schedule: &[Cpu], _processors: u32) -> bool {
+    fn admits(&self, path: &Path<'_>, schedule: &Schedule, _processors: u32) -> bool {
         path.is_played();
         match path.answered() {
-            Some(finished) => self.has_seen_latest(schedule, &finished),
+            Some(finished) => self.has_seen_latest(schedule.as_slice(), &finished),
             None => true,
         }
     }
@@ -109,7 +109,7 @@ impl<'a> Aim for Explainer<'a> {
     fn push_marks(
         &self,
         path: &Path<'_>,
-        schedule: &[Cpu],
+        schedule: &Schedule,
         processors: u32,
         numbers: &mut Vec<u32>,
     ) -> Result<bool, AllocError> {
@@ -127,15 +127,15 @@ impl<'a> Aim for Explainer<'a> {
         &mut self,
         alloc: Global,
         path: &Path<'_>,
-        schedule: &[Cpu],
+        schedule: &Schedule,
         processors: u32,
     ) -> Result<bool, AllocError> {
         path.is_played();
-        if is_over(alloc, path, processors)? {
+        if is_over(path, processors) {
             return Ok(true);
         }
         if self.longest.len() < schedule.len() {
-            self.longest = schedule.iter().copied().collect(alloc)?;
+            self.longest = schedule.as_slice().iter().copied().collect(alloc)?;
         }
         Ok(false)
     }

@@ -52,3 +52,15 @@ goes_within g p rest cpu news end played whole =
     first_played g cpu rest news end (sym (plays_on g p (cpu ∷ rest)
     ∙ ap (λ (o : Option (List Record)). fold (play_one g) o (cpu ∷ rest)) played) ∙ whole) in
     asks_within g news cpu one.0 one.1
+
+pub call_within : (g : Setting) (p rest : List ℕ) (cpu : ℕ) (end : List Record)
+    → plays g (p ++ cpu ∷ rest) ≡ Some end → cpu < length g.scripts
+call_within g p rest cpu end whole = by_place (plays g p) refl
+  where
+    by_place : (o : Option (List Record)) → plays g p ≡ o → cpu < length g.scripts
+    by_place None is =
+        absurd (none-some end
+        (sym (plays_on g p (cpu ∷ rest)
+        ∙ (ap (λ (o : Option (List Record)). fold (play_one g) o (cpu ∷ rest)) is
+        ∙ stays_none g (cpu ∷ rest))) ∙ whole))
+    by_place (Some news) is = goes_within g p rest cpu news end is whole

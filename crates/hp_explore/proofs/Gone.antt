@@ -14,7 +14,7 @@ use Rattle.hp_units.specs.declared.replies.Reply.TheVariants.{Refused}
 use Rattle.hp_laws.proofs.Net.{net-push}
 use Rattle.hp_laws.proofs.Replays.{net_bad}
 use Rattle.hp_machine.specs.Machine.{MachineValue}
-use Rattle.hp_steps.specs.Steps.{StepsValue}
+use Rattle.hp_memory.specs.Steps.{StepsValue}
 use Rattle.hp_schedules.specs.Schedules.{Setting, next_call, plays, record_of_call, schedule_of}
 use Rattle.hp_explore.specs.Settings.{setting}
 use Rattle.hp_states.specs.Walks.{IsAt}

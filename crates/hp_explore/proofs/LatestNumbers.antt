@@ -10,9 +10,9 @@ use Rattle.hp_units.specs.Receipts.{receipts_of}
 use Rattle.hp_units.specs.declared.events.Event.{Event}
 use Rattle.hp_units.specs.declared.events.Event.TheVariants.{DrainFor, Migrate, Commit, Cancel}
 use Rattle.hp_units.specs.declared.replies.Record.{Record}
-use Rattle.hp_renumbering.specs.Numberings.{number_of}
-use Rattle.hp_renumbering.specs.Renumbered.{renumbered_event}
-use Rattle.hp_renumbering.proofs.Numbered.{differ, fixed_number, later}
+use Rattle.hp_laws.specs.Numberings.{number_of}
+use Rattle.hp_laws.specs.Renumbered.{renumbered_event}
+use Rattle.hp_laws.proofs.Numbered.{differ, fixed_number, later}
 use Rattle.hp_schedules.specs.Openings.{change_of}
 use Rattle.hp_schedules.specs.Schedules.{Setting, plays, record_of_call, schedule_of}
 use Rattle.hp_schedules.specs.Scripts.{greater, greatest_in, greatest_named, later_operation, named_by, named_in, own_operation}

@@ -6,7 +6,7 @@ use Rattle.std.proofs.lemmas.List.{append-nil, append_assoc, length-append, leng
 use Rattle.std.proofs.lemmas.List.FromFn.{length-map-range_with_len}
 use Rattle.std.proofs.lemmas.List.Sums.{fold_push}
 use Rattle.hp_units.specs.declared.replies.Record.{Record}
-use Rattle.hp_renumbering.specs.Numberings.{number_of}
+use Rattle.hp_laws.specs.Numberings.{number_of}
 use Rattle.hp_schedules.specs.Schedules.{Setting}
 use Rattle.hp_schedules.specs.Scripts.{greatest_named}
 use Rattle.hp_explore.specs.LatestOps.{Along, AreLatestAt, along, along_with, last_of, latest_here, numbering, ops_at}

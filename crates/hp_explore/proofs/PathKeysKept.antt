@@ -15,17 +15,6 @@ pub keys_none : (g : Setting) (aim : AimValue) (news : List Record) (keys : List
     → ((calls : ℕ) → get_or keys calls None ≡ None) → ArePathKeys g aim news keys
 keys_none g aim news keys none calls key here = absurd (none-some key (sym (none calls) ∙ here))
 
--- the path gets longer
-pub keys_longer : (g : Setting) (aim : AimValue) (news : List Record) (r : Record)
-    (keys : List (Option (List ℕ)))
-    → ArePathKeys g aim news keys → ArePathKeys g aim (news ++ r ∷ []) keys
-keys_longer g aim news r keys are calls key here =
-    let was = are calls key here in (
-      omega (arith, was.0, length_push news r),
-      subst (λ (h : List Record). IsPlaceKey g aim no_stops h key)
-          (sym (take-append-le calls news (r ∷ []) was.0)) was.1,
-    )
-
 -- the path gets shorter, and the key of the place that is left is forgotten
 pub keys_shorter : (g : Setting) (aim : AimValue) (news : List Record) (r : Record) (calls : ℕ)
     (old new : List (Option (List ℕ)))

@@ -3,7 +3,7 @@ use Rattle.std.proofs.Common.{◌≡◌, ◌<◌, ℕ, List, [], ◌∷◌, ◌+
 use Rattle.std.proofs.lemmas.List.{reverse-append}
 use Rattle.hp_units.specs.declared.events.Event.{Event}
 use Rattle.hp_units.specs.declared.replies.Record.{Record}
-use Rattle.hp_steps.specs.Steps.{StepsValue}
+use Rattle.hp_memory.specs.Steps.{StepsValue}
 use Rattle.hp_schedules.specs.Cursors.{AreCursors, IsCalledFor}
 use Rattle.hp_explore.specs.Paths.{IsAdvanced, IsBack, IsForth, IsPath, IsTakenBack, IsTurned, IsWayBack, PathValue}
 use Rattle.hp_schedules.specs.Schedules.{Setting, next_call, record_of_call}

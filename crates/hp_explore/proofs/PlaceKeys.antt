@@ -6,10 +6,10 @@ use Rattle.std.proofs.lemmas.List.{append_assoc}
 use Rattle.hp_units.specs.Placement.{IsShaped}
 use Rattle.hp_units.specs.declared.replies.Record.{Record}
 use Rattle.hp_memory.specs.Memory.{MemoryValue}
-use Rattle.hp_renumbering.specs.Renumbered.{renumbered}
+use Rattle.hp_laws.specs.Renumbered.{renumbered}
 use Rattle.hp_schedules.specs.Alike.{AreMergeable}
 use Rattle.hp_units.specs.declared.events.Event.{Event}
-use Rattle.hp_renumbering.proofs.Numbered.{differ}
+use Rattle.hp_laws.proofs.Numbered.{differ}
 use Rattle.hp_schedules.specs.Continuing.{ContinueAlike, ContinuesAs, anonymous}
 use Rattle.hp_schedules.specs.Cursors.{AreCursors, IsSteered}
 use Rattle.hp_schedules.specs.declared.cursors.Cursor.{Cursor}

@@ -1,243 +1,296 @@
 -- The turns of a search that go on, and those that come to a place.
-use Rattle.std.proofs.Common.{◌≡◌, ℕ, ◌+◌, ◌<◌, ◌≤◌, false, List, [], ◌∷◌, ◌++◌, length, Some, None, refl, ap, sym, subst, ◌∙◌, arith, inl, inr}
-use Rattle.std.proofs.lemmas.List.{length-append, length-map, length_push, same_from_push}
-use Rattle.hp_units.specs.declared.events.Event.{Event}
+use Rattle.std.proofs.Common.{◌≡◌, ℕ, suc, ◌+◌, ◌<◌, Bool, true, false, List, [], ◌∷◌, ◌++◌, length, Some, ap, refl, sym, subst, ◌∙◌, arith, inl, inr}
+use Rattle.std.proofs.lemmas.List.{length-append, length-map}
+use Rattle.hp_units.specs.History.{effect_of}
 use Rattle.hp_units.specs.declared.replies.Record.{Record}
-use Rattle.hp_states.specs.Rooms.{is_full_after}
-use Rattle.hp_states.specs.Walks.{HasRoomBefore}
-use Rattle.hp_states.proofs.Rooms.{push_extends}
+use Rattle.hp_units.specs.declared.events.Event.{Event}
+use Rattle.hp_schedules.specs.Alike.{AreMergeable, leaves_steps}
+use Rattle.hp_schedules.specs.Cursors.{AreCursors}
 use Rattle.hp_schedules.specs.Schedules.{Setting, next_call, plays, record_of_call, schedule_of}
+use Rattle.hp_schedules.specs.declared.cursors.Cursor.{Cursor}
 use Rattle.hp_schedules.proofs.Plays.{caller}
-use Rattle.hp_explore.specs.Aims.{AimValue, IsFirstSought, IsLawful, IsNarrower, IsTurnCause, MayBeSkipped, NoneFrom}
-use Rattle.hp_explore.specs.Faults.{IsCauseHere}
-use Rattle.hp_explore.specs.Searches.{AreAdmitted, HasArrived, IsArriving, IsBegun, IsCloser, IsNear, IsSearching, IsTurned, SearchValue, room_of, search_at, turns_left, turns_of}
+use Rattle.hp_schedules.proofs.SameCalls.{call_leaves, event_kept}
+use Rattle.hp_states.specs.Stops.{KeepStops}
+use Rattle.hp_explore.specs.Aims.{AimValue, IsLawful, IsNarrower, MayBeSkipped}
+use Rattle.hp_explore.specs.LookedUp.{IsLookedUp}
+use Rattle.hp_explore.specs.Paths.{IsForth, PathValue}
+use Rattle.hp_explore.specs.Reaching.{HasRoomAlong}
+use Rattle.hp_explore.specs.Searches.{AreTriedTo, IsArriving, IsBegun, IsCallDone, IsLeaving, IsOn, IsPlaced, IsTriedTo, IsTrying, cpu_at, number_at, numbers_from, room_of, turns_at, turns_left}
 use Rattle.hp_explore.specs.Visited.{AreFollowed, AreVisited}
-use Rattle.hp_explore.specs.declared.exploring.ExploreFault.{ExploreFault}
-use Rattle.hp_explore.specs.declared.exploring.ExploreFault.TheVariants.{HistoryFull, OutOfMemory}
-use Rattle.hp_explore.specs.declared.searching.Turn.{Turn}
-use Rattle.hp_explore.specs.declared.searching.Turn.TheVariants.{On, New, Found, Over}
+use Rattle.hp_explore.specs.declared.searching.Search.{Search}
 use Rattle.hp_explore.specs.declared.visited.Visited.{Visited}
-use Rattle.hp_explore.proofs.FindRooms.{room_none, room_push, spared_down, spared_none, spared_over}
+use Rattle.hp_explore.proofs.CallsDone.{tried_down, tried_narrower, tried_next, tried_none}
+use Rattle.hp_explore.proofs.FindRooms.{room_none, room_push}
 use Rattle.hp_explore.proofs.FindTurns.{left_down, left_past}
 use Rattle.hp_explore.proofs.Framing.{longer_schedule}
-use Rattle.hp_explore.proofs.Passed.{none_down, none_first, none_over, none_past}
-use Rattle.hp_explore.proofs.Visits.{visited_narrower, visited_none}
+use Rattle.hp_explore.proofs.LookedUps.{told_is_done}
+use Rattle.hp_explore.proofs.Rotations.{tried_there}
+use Rattle.hp_explore.proofs.Visits.{known_done, stops_kept, visited_longer, visited_more, visited_narrower, visited_none}
 use Rattle.hp_explore.proofs.Walked.{room_after}
 
 -- ---- the start
 
-pub started : (g : Setting) (aim : AimValue) (v : SearchValue) → aim.admits [] → IsBegun g v
-    → IsSearching aim v
-started g aim v admitted begun =
-    subst (IsSearching aim) (sym begun.is) (record {
-      schedule = refl;
-      here = admitted;
-      on_way = λ start cpu on. absurd (omega (
-        arith,
-        ap (λ (s : List ℕ). length s) on.1,
-        length-append (start ++ cpu ∷ []) on.0,
-        length_push start cpu,
-      ));
-      next = omega arith;
-      room = omega arith;
-      along = room_none g;
-      none = none_first aim;
-      spared = λ whole. spared_none g;
-      visited = visited_none g aim begun.visited begun.mergeable begun.none;
-      way = begun.way;
-    })
-
-pub begun_at : (g : Setting) (v : SearchValue) → IsBegun g v → v.path.setting ≡ g
-begun_at g v begun = ap (λ (w : SearchValue). w.path.setting) begun.is
+pub started : (g : Setting) (aim : AimValue) (seed : ℕ) (w : Search) → aim.admits [] → IsBegun g w
+    → IsTrying aim seed w.path w.next w.visited
+started g aim seed w admitted begun = rw (begun.path, begun.next) (record {
+  placed = record {
+    along = room_none g;
+    earlier = tried_none g aim seed;
+    way = begun.way;
+    base = begun.base;
+  };
+  tried = (admitted, λ cpu within less. absurd (omega (arith, less)));
+  visited = visited_none g aim w.visited begun.mergeable begun.none;
+})
 
 -- ---- a narrower aim
 
-pub narrowed : (old new : AimValue) (v : SearchValue) → IsNarrower old new → IsSearching old v
-    → IsSearching new v
-narrowed old new v narrower here = record {
-  schedule = here.schedule;
-  here = narrower.admits v.schedule here.here;
-  on_way = λ start cpu on. narrower.admits start (here.on_way start cpu on);
-  next = here.next;
-  room = here.room;
-  along = here.along;
-  none = λ s sought before. here.none s (narrower.sought s sought) before;
-  spared = λ whole. here.spared (narrower.whole whole);
-  visited = visited_narrower v.path.setting old new v.schedule v.visited narrower here.visited;
-  way = here.way;
-}
-
--- ---- a call more
-
--- there is room for it
-shorter : (v : SearchValue) → is_full_after v.path.setting v.path.news ≡ false
-    → v.schedule ≡ schedule_of v.path.news → length v.schedule < room_of v.path.setting
-shorter v has_room is =
-    let all : length (v.path.setting.start ++ v.path.news)
-    ≡ length v.path.setting.start + length v.path.news =
-    length-append v.path.setting.start v.path.news in
-    let calls : length v.schedule ≡ length v.path.news =
-    ap (λ (s : List ℕ). length s) is ∙ length-map v.path.news (λ (r : Record). r.cpu) in
-    omega (arith, all, calls, room_after v.path.setting v.path.news has_room)
-
--- the place is on the way to the next
-admitted_longer : (aim : AimValue) (p : List ℕ) (next : ℕ) → aim.admits p → AreAdmitted aim p
-    → AreAdmitted aim (p ++ next ∷ [])
-admitted_longer aim p next here on_way start cpu on =
-    elim (push_extends p (start ++ cpu ∷ []) on.0 next on.1) [
-      | inl same ↦ subst aim.admits (same_from_push p start next cpu same).0 here
-      | inr shorter ↦ on_way start cpu shorter
-    ]
-
--- the search comes to a place
-pub arriving : (aim : AimValue) (v : SearchValue) (event : Event) (later : Visited) (next : ℕ)
-    → plays v.path.setting (schedule_of v.path.news) ≡ Some v.path.news → IsSearching aim v
-    → is_full_after v.path.setting v.path.news ≡ false
-    → aim.tries v.schedule v.next
-    → AreVisited v.path.setting aim v.schedule later
-    → AreFollowed v.path.setting (v.path.news ++ record_of_call v.path.setting v.path.news v.next event ∷ [])
-    later
-    → IsArriving aim (search_at
-    (record {
-      setting = v.path.setting;
-      news = v.path.news ++ record_of_call v.path.setting v.path.news v.next event ∷ [];
-    }) (v.schedule ++ v.next ∷ []) next later)
-arriving aim v event later next played here has_room tried kept way = record {
-  schedule =
-      ap (λ (s : List ℕ). s ++ v.next ∷ []) here.schedule
-      ∙ (ap (λ (c : ℕ). schedule_of v.path.news ++ c ∷ [])
-      (sym (caller v.path.setting v.path.news v.next event))
-      ∙ sym (longer_schedule v.path.news (record_of_call v.path.setting v.path.news v.next event)));
-  on_way = admitted_longer aim v.schedule v.next here.here here.on_way;
-  room = omega (arith, length_push v.schedule v.next, shorter v has_room here.schedule);
-  along =
-      room_push v.path.setting v.schedule v.path.news v.next here.along
-      (subst (λ (s : List ℕ). plays v.path.setting s ≡ Some v.path.news) (sym here.schedule) played)
-      has_room;
-  none = here.none;
-  spared = here.spared;
-  call = record { before = v.schedule; cpu = v.next; longer = refl; from = here.here; tried = tried };
-  visited = kept;
-  way = way;
-}
-
--- the place is tried, from its first continuation on
-pub opened : (aim : AimValue) (v : SearchValue) (later : Visited) → IsArriving aim v
-    → aim.admits v.schedule → AreVisited v.path.setting aim v.schedule later
-    → AreFollowed v.path.setting v.path.news later
-    → IsNear aim v (search_at v.path v.schedule 0 later)
-opened aim v later here admitted kept way = record {
-  searching = record {
-    schedule = here.schedule;
-    here = admitted;
-    on_way = here.on_way;
-    next = omega arith;
-    room = here.room;
-    along = here.along;
-    none = none_down aim v.schedule here.none;
-    spared = λ whole. spared_down v.path.setting v.schedule (here.spared whole);
-    visited = kept;
-    way = way;
+pub narrowed : (old new : AimValue) (seed : ℕ) (p : PathValue) (next : ℕ) (v : Visited)
+    → IsNarrower old new → IsTrying old seed p next v → IsTrying new seed p next v
+narrowed old new seed p next v narrower here = record {
+  placed = record {
+    along = here.placed.along;
+    earlier = λ before cpu on. tried_narrower p.setting old new seed before _ narrower
+        (here.placed.earlier before cpu on);
+    way = here.placed.way;
+    base = here.placed.base;
   };
-  same = refl;
-  few = omega arith;
+  tried = tried_narrower p.setting old new seed (schedule_of p.news) next narrower here.tried;
+  visited = visited_narrower p.setting old new (schedule_of p.news) v narrower here.visited;
 }
 
--- a place that is come to leaves fewer turns
-closer_near : (aim : AimValue) (v w u : SearchValue)
-    → v.next < length v.path.setting.scripts → w.path.setting ≡ v.path.setting
-    → w.schedule ≡ v.schedule ++ v.next ∷ [] → is_full_after v.path.setting v.path.news ≡ false
-    → v.schedule ≡ schedule_of v.path.news → IsNear aim w u → IsCloser aim v u
-closer_near aim v w u less same longer has_room is near = record {
-  searching = near.searching;
-  same = near.same ∙ same;
-  fewer =
-      let down =
-      left_down (length v.path.setting.scripts) (room_of v.path.setting) v.schedule v.next less
-      (shorter v has_room is) in
-      let few : turns_of u
-      ≤ turns_left (length v.path.setting.scripts) (room_of v.path.setting) (v.schedule ++ v.next ∷ []) 0 =
-      subst (λ (s : List ℕ). turns_of u
-      ≤ turns_left (length v.path.setting.scripts) (room_of v.path.setting) s 0) longer
-      (subst (λ (g : Setting). turns_of u ≤ turns_left (length g.scripts) (room_of g) w.schedule 0) same
-      near.few) in
-      omega (arith, down, few);
+-- ---- the next call
+
+-- it is not made
+pub passed : (aim : AimValue) (seed : ℕ) (p : PathValue) (next cpu : ℕ) (v : Visited)
+    → (cpu < length p.setting.scripts)
+    × (number_at (length p.setting.scripts) seed (length (schedule_of p.news)) cpu ≡ next)
+    → IsTrying aim seed p next v → IsCallDone p.setting aim (schedule_of p.news ++ cpu ∷ [])
+    → IsTrying aim seed p (next + 1) v
+passed aim seed p next cpu v at here done = record {
+  placed = here.placed;
+  tried =
+      subst (λ (k : ℕ). IsTriedTo p.setting aim seed (schedule_of p.news) (k + 1)) at.1
+      (tried_next p.setting aim seed (schedule_of p.news) cpu at.0
+      (subst (IsTriedTo p.setting aim seed (schedule_of p.news)) (sym at.1) here.tried) done);
+  visited = here.visited;
 }
 
--- a turn that came to a place
-pub turned_near : (aim : AimValue) (v w u : SearchValue) (turn : Turn)
-    → v.next < length v.path.setting.scripts → w.path.setting ≡ v.path.setting
-    → w.schedule ≡ v.schedule ++ v.next ∷ [] → is_full_after v.path.setting v.path.news ≡ false
-    → v.schedule ≡ schedule_of v.path.news → HasArrived aim w u turn → IsTurned aim v u turn
-turned_near aim v w u On less same longer has_room is near =
-    closer_near aim v w u less same longer has_room is near
-turned_near aim v w u New less same longer has_room is near =
-    closer_near aim v w u less same longer has_room is near
-turned_near aim v w u Found less same longer has_room is near = absurd near
-turned_near aim v w u Over less same longer has_room is over =
-    subst (λ (g : Setting). IsFirstSought g aim None) same over
+-- it is made
+pub went : (p q : PathValue) (cpu : ℕ) → IsForth p cpu true q
+    → schedule_of q.news ≡ schedule_of p.news ++ cpu ∷ []
+went p q cpu forth =
+    ap (λ (x : PathValue). schedule_of x.news) forth.3
+    ∙ (longer_schedule p.news (record_of_call p.setting p.news cpu forth.0)
+    ∙ ap (λ (c : ℕ). schedule_of p.news ++ c ∷ []) (caller p.setting p.news cpu forth.0))
 
--- ---- the next processor
-
--- its call is not made
-past : (aim : AimValue) (v : SearchValue) → v.next < length v.path.setting.scripts → IsSearching aim v
-    → NoneFrom aim (v.schedule ++ v.next ∷ [])
-    → (aim.is_whole → HasRoomBefore v.path.setting (v.schedule ++ (v.next + 1) ∷ []))
-    → IsCloser aim v (search_at v.path v.schedule (v.next + 1) v.visited)
-past aim v less here from spared = record {
-  searching = record {
-    schedule = here.schedule;
-    here = here.here;
-    on_way = here.on_way;
-    next = omega (arith, less);
-    room = here.room;
-    along = here.along;
-    none = none_past aim v.schedule v.next here.none from;
-    spared = spared;
-    visited = here.visited;
-    way = here.way;
-  };
-  same = refl;
-  fewer = left_past (length v.path.setting.scripts) (room_of v.path.setting) v.schedule v.next less;
-}
-
--- since the aim has it not tried
-pub past_skipped : (aim : AimValue) (v : SearchValue) → v.next < length v.path.setting.scripts
-    → IsSearching aim v → MayBeSkipped aim (v.schedule ++ v.next ∷ [])
-    → IsCloser aim v (search_at v.path v.schedule (v.next + 1) v.visited)
-past_skipped aim v less here skipped = past aim v less here skipped.0 (λ whole. absurd (skipped.1 whole))
-
--- since its script is finished
-pub past_over : (aim : AimValue) (v : SearchValue) → IsLawful v.path.setting aim
-    → v.next < length v.path.setting.scripts
-    → plays v.path.setting (schedule_of v.path.news) ≡ Some v.path.news → IsSearching aim v
-    → next_call v.path.setting v.next v.path.news ≡ None
-    → IsCloser aim v (search_at v.path v.schedule (v.next + 1) v.visited)
-past_over aim v lawful less played here over =
-    past aim v less here (none_over v.path.setting aim v.schedule v.path.news v.next lawful led over)
-    (λ whole. spared_over v.path.setting v.schedule v.path.news v.next led over (here.spared whole))
+-- the visited places follow it
+followed : (p : PathValue) (cpu : ℕ) (event : Event) (latest : Record) (cursors : List Cursor)
+    (old new : Visited)
+    → next_call p.setting cpu p.news ≡ Some event → latest ≡ record_of_call p.setting p.news cpu event
+    → (old.is_on ≡ true → AreMergeable p.setting.scripts) → AreFollowed p.setting p.news old
+    → AreCursors p.setting (p.news ++ record_of_call p.setting p.news cpu event ∷ []) cursors
+    → ((g : Setting) (news : List Record) → AreFollowed g news old
+    → (old.is_on ≡ true → leaves_steps (effect_of latest.event) ≡ true)
+    → AreCursors g (news ++ latest ∷ []) cursors → AreFollowed g (news ++ latest ∷ []) new)
+    → AreFollowed p.setting (p.news ++ record_of_call p.setting p.news cpu event ∷ []) new
+followed p cpu event latest cursors old new asked is mergeable way at on =
+    rw is at (on p.setting p.news way leaves (rw is at))
   where
-    led : plays v.path.setting v.schedule ≡ Some v.path.news
-    led = subst (λ (s : List ℕ). plays v.path.setting s ≡ Some v.path.news) (sym here.schedule) played
+    leaves : old.is_on ≡ true → leaves_steps (effect_of latest.event) ≡ true
+    leaves set = rw (is, event_kept) (call_leaves p.setting p.news cpu event (mergeable set) asked)
 
--- ---- no room for a call
+-- it leads to a place
+pub comes : (p q : PathValue) (aim : AimValue) (seed next cpu : ℕ) (latest : Record) (cursors : List Cursor)
+    (old new : Visited)
+    → plays p.setting (schedule_of p.news) ≡ Some p.news
+    → (cpu < length p.setting.scripts)
+    × (number_at (length p.setting.scripts) seed (length (schedule_of p.news)) cpu ≡ next)
+    → IsTrying aim seed p next old → IsForth p cpu true q → aim.tries (schedule_of p.news) cpu
+    → ((before : List Record) (r : Record) → q.news ≡ before ++ r ∷ [] → latest ≡ r)
+    → AreCursors q.setting q.news cursors
+    → new.is_on ≡ old.is_on → new.keys ≡ old.keys → KeepStops old.stops new.stops
+    → ((g : Setting) (news : List Record) → AreFollowed g news old
+    → (old.is_on ≡ true → leaves_steps (effect_of latest.event) ≡ true)
+    → AreCursors g (news ++ latest ∷ []) cursors → AreFollowed g (news ++ latest ∷ []) new)
+    → IsArriving aim seed q new
+comes p q aim seed next cpu latest cursors old new played at here forth tried last there on keys keep way =
+    subst (λ (x : PathValue). IsArriving aim seed x new) (sym forth.3) (record {
+      placed = record {
+        along =
+            subst (HasRoomAlong p.setting) (sym led)
+            (room_push p.setting (schedule_of p.news) p.news cpu here.placed.along played forth.2);
+        earlier =
+            subst (AreTriedTo p.setting aim seed) (sym led)
+            (tried_down p.setting aim seed (schedule_of p.news) cpu
+            (subst (IsTriedTo p.setting aim seed (schedule_of p.news)) (sym at.1) here.tried)
+            here.placed.earlier);
+        way =
+            followed p cpu forth.0 latest cursors old new forth.1
+            (last p.news made (ap (λ (x : PathValue). x.news) forth.3)) here.visited.mergeable
+            here.placed.way
+            (subst (λ (x : PathValue). AreCursors x.setting x.news cursors) forth.3 there) way;
+        base = λ n ns was. keep.lists n ns (here.placed.base n ns was);
+      };
+      call = record {
+        before = schedule_of p.news;
+        cpu = cpu;
+        longer = led;
+        from = here.tried.0;
+        tried = tried;
+      };
+      visited = stops_kept p.setting aim (schedule_of p.news) old new on keys keep here.visited;
+    })
+  where
+    made : Record
+    made = record_of_call p.setting p.news cpu forth.0
 
-pub turn_cause : (aim : AimValue) (v : SearchValue) (fault : ExploreFault)
-    → plays v.path.setting (schedule_of v.path.news) ≡ Some v.path.news → IsSearching aim v
-    → aim.tries v.schedule v.next → IsCauseHere v.path.setting v.path.news v.next fault
-    → IsTurnCause v.path.setting aim fault
-turn_cause aim v HistoryFull played here tried full = record {
-  place = v.schedule;
-  call = record {
-    news = v.path.news;
-    cpu = v.next;
-    event = full.0;
-    played = subst (λ (s : List ℕ). plays v.path.setting s ≡ Some v.path.news) (sym here.schedule) played;
-    asked = full.1;
-    full = full.2;
-  };
-  admitted = here.here;
-  tried = tried;
-  none = here.none;
+    led : schedule_of (p.news ++ made ∷ []) ≡ schedule_of p.news ++ cpu ∷ []
+    led = sym (ap (λ (x : PathValue). schedule_of x.news) forth.3) ∙ went p q cpu forth
+
+-- ---- the place that it leads to
+
+-- the visited places lead here
+visited_here : (aim : AimValue) (seed : ℕ) (p : PathValue) (v w : Visited)
+    → (here : IsArriving aim seed p v) → AreVisited p.setting aim here.call.before w
+    → AreVisited p.setting aim (schedule_of p.news) w
+visited_here aim seed p v w here visited =
+    subst (λ (s : List ℕ). AreVisited p.setting aim s w) (sym here.call.longer)
+    (visited_longer p.setting aim here.call.before here.call.cpu w visited)
+
+-- they have more numbers
+moved : (aim : AimValue) (seed : ℕ) (p : PathValue) (old new : Visited) → IsPlaced aim seed p old
+    → KeepStops old.stops new.stops → AreFollowed p.setting p.news new → IsPlaced aim seed p new
+moved aim seed p old new placed keep way = record {
+  along = placed.along;
+  earlier = placed.earlier;
+  way = way;
+  base = λ n ns was. keep.lists n ns (placed.base n ns was);
 }
-turn_cause aim v OutOfMemory played here tried full = tt
+
+-- the aim does not admit it
+pub not_admitted : (aim : AimValue) (seed : ℕ) (p : PathValue) (v : Visited) → IsArriving aim seed p v
+    → MayBeSkipped aim (schedule_of p.news) → IsLeaving aim seed p v
+not_admitted aim seed p v here skipped = record {
+  placed = here.placed;
+  visited = visited_here aim seed p v v here here.visited;
+  done = (skipped.0, λ whole. absurd (skipped.1 whole));
+}
+
+-- it is known, so it is done
+pub known_here : (aim : AimValue) (seed : ℕ) (p : PathValue) (old new : Visited) (known : Bool)
+    → IsLawful p.setting aim → plays p.setting (schedule_of p.news) ≡ Some p.news
+    → IsArriving aim seed p old → aim.admits (schedule_of p.news)
+    → new.is_on ≡ old.is_on → KeepStops old.stops new.stops → AreFollowed p.setting p.news new
+    → IsLookedUp p.setting aim p.news old new known → known ≡ true → IsLeaving aim seed p new
+known_here aim seed p old new false lawful played here admitted on keep way found told = absurd cc
+known_here aim seed p old new true lawful played here admitted on keep way found told = record {
+  placed = moved aim seed p old new here.placed keep way;
+  visited = visited_here aim seed p old new here visited;
+  done = elim found.2 [
+    | inl known ↦ known_done p.setting aim here.call.before here.call.cpu p.news new lawful played
+        here.call.longer admitted visited known
+    | inr told ↦ told_is_done p.setting aim p.news told.0 lawful (here.visited.mergeable found.0) played
+        admitted told.1.0 told.1.1
+  ];
+}
+  where
+    visited : AreVisited p.setting aim here.call.before new
+    visited = stops_kept p.setting aim here.call.before old new on found.1 keep here.visited
+
+-- it is not known, so it is tried from its first call on
+pub opened : (aim : AimValue) (seed : ℕ) (p : PathValue) (old new : Visited) (known : Bool)
+    → plays p.setting (schedule_of p.news) ≡ Some p.news
+    → IsArriving aim seed p old → aim.admits (schedule_of p.news)
+    → new.is_on ≡ old.is_on → KeepStops old.stops new.stops → AreFollowed p.setting p.news new
+    → IsLookedUp p.setting aim p.news old new known → known ≡ false → IsTrying aim seed p 0 new
+opened aim seed p old new true played here admitted on keep way kept told = absurd cc
+opened aim seed p old new false played here admitted on keep way kept told = record {
+  placed = moved aim seed p old new here.placed keep way;
+  tried = (admitted, λ cpu within less. absurd (omega (arith, less)));
+  visited =
+      visited_more p.setting aim (schedule_of p.news) p.news old new played refl admitted on keep kept
+      (visited_here aim seed p old old here here.visited);
+}
+
+-- ---- the number of steps left
+
+pub numbers_longer : (n seed depth : ℕ) (schedule : List ℕ) (cpu : ℕ)
+    → numbers_from n seed depth (schedule ++ cpu ∷ [])
+    ≡ numbers_from n seed depth schedule ++ number_at n seed (depth + length schedule) cpu ∷ []
+numbers_longer n seed depth [] cpu =
+    ap (λ (d : ℕ). number_at n seed d cpu ∷ []) (let same : depth ≡ depth + 0 = omega arith in same)
+numbers_longer n seed depth (c ∷ schedule) cpu =
+    ap (λ (numbers : List ℕ). number_at n seed depth c ∷ numbers)
+    (numbers_longer n seed (depth + 1) schedule cpu
+    ∙ ap (λ (d : ℕ). numbers_from n seed (depth + 1) schedule ++ number_at n seed d cpu ∷ [])
+    (let same : (depth + 1) + length schedule ≡ depth + suc (length schedule) = omega arith in same))
+
+-- after one call more
+pub numbers_on : (p : PathValue) (seed cpu : ℕ) (r : Record) → r.cpu ≡ cpu
+    → numbers_from (length p.setting.scripts) seed 0 (schedule_of (p.news ++ r ∷ []))
+    ≡ numbers_from (length p.setting.scripts) seed 0 (schedule_of p.news)
+    ++ number_at (length p.setting.scripts) seed (length (schedule_of p.news)) cpu ∷ []
+numbers_on p seed cpu r is = rw (← is, longer_schedule p.news r)
+    (numbers_longer (length p.setting.scripts) seed 0 (schedule_of p.news) r.cpu
+    ∙ ap (λ (d : ℕ). numbers_from (length p.setting.scripts) seed 0 (schedule_of p.news)
+    ++ number_at (length p.setting.scripts) seed d r.cpu ∷ [])
+    (let same : 0 + length (schedule_of p.news) ≡ length (schedule_of p.news) = omega arith in same))
+
+-- each call has one
+numbers_long : (n seed depth : ℕ) (schedule : List ℕ)
+    → length (numbers_from n seed depth schedule) ≡ length schedule
+numbers_long n seed depth [] = refl
+numbers_long n seed depth (c ∷ schedule) = ap (λ (k : ℕ). suc k) (numbers_long n seed (depth + 1) schedule)
+
+-- fewer are left at the place to which a call leads
+pub fewer_down : (p q : PathValue) (seed next cpu : ℕ) → next < length p.setting.scripts
+    → number_at (length p.setting.scripts) seed (length (schedule_of p.news)) cpu ≡ next
+    → IsForth p cpu true q → turns_at seed q 0 < turns_at seed p next
+fewer_down p q seed next cpu less at forth =
+    let long : length (numbers_from (length p.setting.scripts) seed 0 (schedule_of p.news)) ≡ length p.news =
+    numbers_long (length p.setting.scripts) seed 0 (schedule_of p.news)
+    ∙ length-map p.news (λ (r : Record). r.cpu) in
+    subst (λ (x : PathValue). turns_at seed x 0 < turns_at seed p next) (sym forth.3)
+    (subst (λ (numbers : List ℕ). turns_left (length p.setting.scripts) (room_of p.setting) numbers 0
+    < turns_at seed p next)
+    (sym (numbers_on p seed cpu (record_of_call p.setting p.news cpu forth.0)
+    (caller p.setting p.news cpu forth.0)
+    ∙ ap (λ (k : ℕ). numbers_from (length p.setting.scripts) seed 0 (schedule_of p.news) ++ k ∷ []) at))
+    (left_down (length p.setting.scripts) (room_of p.setting)
+    (numbers_from (length p.setting.scripts) seed 0 (schedule_of p.news)) next less
+    (omega (
+      arith,
+      length-append p.setting.start p.news,
+      long,
+      room_after p.setting p.news forth.2,
+    ))))
+
+-- ---- a call that is not made
+
+-- the processor that is tried next
+pub tried_here : (p : PathValue) (seed processors : ℕ) (schedule : List ℕ) (len next cpu : ℕ)
+    → processors ≡ length p.setting.scripts → schedule ≡ schedule_of p.news → len ≡ length schedule
+    → next < processors → cpu ≡ cpu_at processors seed len next
+    → (cpu < length p.setting.scripts)
+    × (number_at (length p.setting.scripts) seed (length (schedule_of p.news)) cpu ≡ next)
+tried_here p seed processors schedule len next cpu many is long less at =
+    tried_there (length p.setting.scripts) seed (length (schedule_of p.news)) len next cpu
+    (omega (arith, many, less)) (long ∙ ap (λ (s : List ℕ). length s) is)
+    (at ∙ ap (λ (n : ℕ). cpu_at n seed len next) many)
+
+-- the search goes on with the call after it
+pub passed_on : (aim : AimValue) (seed : ℕ) (keeps : PathValue → Type 0) (v w : Search)
+    → w.path ≡ v.path → w.schedule ≡ schedule_of v.path.news → w.next ≡ v.next + 1
+    → w.visited ≡ v.visited → v.next < length v.path.setting.scripts
+    → IsTrying aim seed v.path (v.next + 1) v.visited → keeps v.path
+    → IsOn aim seed keeps v.path.setting (turns_at seed v.path v.next) w
+passed_on aim seed keeps v w path schedule next visited less trying kept = record {
+  schedule = schedule ∙ ap (λ (p : PathValue). schedule_of p.news) (sym path);
+  trying = rw (path, next, visited) trying;
+  kept = rw path kept;
+  same = ap (λ (p : PathValue). p.setting) path;
+  fewer =
+      rw (path, next) (left_past (length v.path.setting.scripts) (room_of v.path.setting)
+      (numbers_from (length v.path.setting.scripts) seed 0 (schedule_of v.path.news)) v.next less);
+}

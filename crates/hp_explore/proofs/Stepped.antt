@@ -14,7 +14,7 @@ use Rattle.hp_laws.proofs.Records.{with_good}
 use Rattle.hp_laws.proofs.Replays.{net_bad}
 use Rattle.hp_laws.proofs.Steps.{IsOnward, steps}
 use Rattle.hp_machine.specs.Machine.{MachineValue}
-use Rattle.hp_steps.specs.Steps.{IsStepped, StepsValue, record_of_step}
+use Rattle.hp_memory.specs.Steps.{IsStepped, StepsValue, record_of_step}
 use Rattle.hp_schedules.specs.Schedules.{Setting, next_call, plays, record_of_call, schedule_of}
 use Rattle.hp_states.specs.Walks.{IsAt}
 use Rattle.hp_explore.specs.Walks.{IsReached, may_go_back, news_in}

@@ -4,7 +4,7 @@ use Rattle.std.proofs.lemmas.Option.{same_Some}
 use Rattle.hp_units.specs.History.{effect_of}
 use Rattle.hp_units.specs.declared.events.Event.{Event}
 use Rattle.hp_units.specs.declared.replies.Record.{Record}
-use Rattle.hp_steps.specs.Steps.{IsLater, IsStepped, StepsValue, record_of_step}
+use Rattle.hp_memory.specs.Steps.{IsLater, IsStepped, StepsValue, record_of_step}
 use Rattle.hp_states.specs.Rooms.{is_full_after}
 use Rattle.hp_explore.specs.Paths.{IsTurned, IsWayOver}
 use Rattle.hp_schedules.specs.Schedules.{Setting, next_call, plays, record_of_call, schedule_of}

@@ -3,7 +3,7 @@ use Rattle.std.specs.Prelude.{◌≡◌, ℕ, ◌-◌, Bool, true, false, if◌t
 use Rattle.std.specs.List.{range_with_len}
 use Rattle.hp_units.specs.Receipts.{receipts_of}
 use Rattle.hp_units.specs.declared.replies.Record.{Record}
-use Rattle.hp_renumbering.specs.Numberings.{number_of}
+use Rattle.hp_laws.specs.Numberings.{number_of}
 use Rattle.hp_schedules.specs.Openings.{change_of}
 use Rattle.hp_schedules.specs.Schedules.{Setting}
 use Rattle.hp_schedules.specs.Scripts.{greatest_named, own_operation}

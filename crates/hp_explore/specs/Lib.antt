@@ -1,6 +1,5 @@
 pub mod Adding
 pub mod Aims
-pub mod Beside
 pub mod CausesBelow
 pub mod Changes
 pub mod DonePlaces

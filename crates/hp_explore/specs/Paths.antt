@@ -4,7 +4,7 @@ use Rattle.hp_units.specs.History.{value_of}
 use Rattle.hp_units.specs.Memory.{Memory}
 use Rattle.hp_units.specs.declared.events.Event.{Event}
 use Rattle.hp_units.specs.declared.replies.Record.{Record}
-use Rattle.hp_steps.specs.Steps.{IsLater, StepsValue}
+use Rattle.hp_memory.specs.Steps.{IsLater, StepsValue}
 use Rattle.hp_schedules.specs.Cursors.{AreCursors}
 use Rattle.hp_states.specs.Rooms.{is_full_after}
 use Rattle.hp_schedules.specs.Schedules.{Setting, next_call, record_of_call}

@@ -1,18 +1,46 @@
 -- The progress of a search.
-use Rattle.std.specs.Prelude.{◌≡◌, ℕ, zero, suc, ◌+◌, ◌-◌, ◌*◌, ◌<◌, ◌≤◌, true, List, [], ◌∷◌, ◌++◌, None, Some, length}
-use Rattle.hp_units.specs.declared.replies.Record.{Record}
+use Rattle.std.specs.Prelude.{◌≡◌, ℕ, zero, suc, ◌+◌, ◌-◌, ◌*◌, ◌%◌, ◌<◌, true, nat_lt, if◌then◌else◌, List, [], ◌∷◌, ◌++◌, Some, length}
 use Rattle.hp_schedules.specs.Alike.{AreMergeable}
+use Rattle.hp_schedules.specs.Digests.{mixed}
 use Rattle.hp_schedules.specs.Orders.{Extends}
 use Rattle.hp_schedules.specs.Schedules.{Setting, schedule_of}
-use Rattle.hp_states.specs.Stops.{AreSameStops}
-use Rattle.hp_states.specs.Walks.{HasRoomBefore}
-use Rattle.hp_explore.specs.Aims.{AimValue, IsFirstSought, IsTried, NoneBefore}
-use Rattle.hp_explore.specs.Paths.{IsBack, PathValue}
+use Rattle.hp_states.specs.Interned.{KeepNumbers}
+use Rattle.hp_states.specs.Rooms.{HasNoRoom}
+use Rattle.hp_explore.specs.Aims.{AimValue, IsDone, IsFirstSought, IsTried, NoneFrom}
+use Rattle.hp_explore.specs.Paths.{PathValue}
 use Rattle.hp_explore.specs.Reaching.{HasRoomAlong}
 use Rattle.hp_explore.specs.Visited.{AreFollowed, AreVisited}
+use Rattle.hp_explore.specs.declared.searching.Search.{Search}
 use Rattle.hp_explore.specs.declared.searching.Turn.{Turn}
 use Rattle.hp_explore.specs.declared.searching.Turn.TheVariants.{On, New, Found, Over}
 use Rattle.hp_explore.specs.declared.visited.Visited.{Visited}
+
+-- ---- the order of the processors
+
+-- the processor that a search tries first at the places after `depth` calls: by its seed alone, if this
+-- is below `processors`
+abbrev pub first_at : (processors seed depth : ℕ) → ℕ
+first_at processors seed depth =
+    if nat_lt seed processors then seed else mixed seed depth % processors
+
+-- the processor whose call is tried as number `number` at a place. Of `processors`, `first` is tried as
+-- number 0, then those above it, and then those below it, from processor 0 on
+abbrev pub turn_of : (processors first number : ℕ) → ℕ
+turn_of processors first number =
+    if nat_lt number (processors - first) then first + number else number - (processors - first)
+
+-- the number as which the processor's call is tried there
+abbrev pub number_of : (processors first cpu : ℕ) → ℕ
+number_of processors first cpu =
+    if nat_lt cpu first then cpu + (processors - first) else cpu - first
+
+-- the processor that a search with this seed tries as number `number` after `depth` calls
+abbrev pub cpu_at : (processors seed depth number : ℕ) → ℕ
+cpu_at processors seed depth number = turn_of processors (first_at processors seed depth) number
+
+-- the number as which it tries the processor there
+abbrev pub number_at : (processors seed depth cpu : ℕ) → ℕ
+number_at processors seed depth cpu = number_of processors (first_at processors seed depth) cpu
 
 -- ---- the number of steps left
 
@@ -22,123 +50,111 @@ abbrev pub turns_below : (processors calls : ℕ) → ℕ
 turns_below processors zero = 0
 turns_below processors (suc calls) = processors * (turns_below processors calls + 2) + 1
 
--- a bound on the number of steps left to a search that is at `place` and tries the processor `next`
--- next. At the beginning of the scripts, `calls` calls may be made
-abbrev pub turns_left : (processors calls : ℕ) → (place : List ℕ) → (next : ℕ) → ℕ
+-- a bound on the number of steps left to a search that tries the call with the number `next` next, at
+-- the place to which the calls with these numbers lead. At the beginning of the scripts, `calls` calls
+-- may be made
+abbrev pub turns_left : (processors calls : ℕ) → (numbers : List ℕ) → (next : ℕ) → ℕ
 turns_left processors calls [] next = (processors - next) * (turns_below processors calls + 2) + 1
-turns_left processors calls (cpu ∷ place) next =
-    (processors - (cpu + 1)) * (turns_below processors calls + 2) + 1
-    + turns_left processors (calls - 1) place next
+turns_left processors calls (number ∷ numbers) next =
+    (processors - (number + 1)) * (turns_below processors calls + 2) + 1
+    + turns_left processors (calls - 1) numbers next
 
 -- the number of records for which the history has room when the scripts begin
 abbrev pub room_of : Setting → ℕ
 room_of g = g.layout.history - length g.start
 
+-- the numbers as which the schedule's calls are tried, after `depth` other calls
+abbrev pub numbers_from : (processors seed depth : ℕ) → (schedule : List ℕ) → List ℕ
+numbers_from processors seed depth [] = []
+numbers_from processors seed depth (cpu ∷ schedule) =
+    number_at processors seed depth cpu ∷ numbers_from processors seed (depth + 1) schedule
+
+-- a bound on the number of steps left to a search with this seed that tries the call with the number
+-- `next` next, at the place of the path
+abbrev pub turns_at : (seed : ℕ) → PathValue → (next : ℕ) → ℕ
+turns_at seed p next =
+    turns_left (length p.setting.scripts) (room_of p.setting)
+    (numbers_from (length p.setting.scripts) seed 0 (schedule_of p.news)) next
+
+-- ---- the calls that were tried
+
+-- the call that leads to the place is done with: no sought schedule continues from the place. If the
+-- search has to come to every place, the history also has room for that call, if it can be made, and
+-- for each call from the place on
+abbrev pub IsCallDone : Setting → AimValue → (place : List ℕ) → Type 0
+IsCallDone g aim place =
+    NoneFrom aim place
+    × (aim.is_whole → (s : List ℕ) (h : HasNoRoom g s) → Extends (s ++ h.cpu ∷ []) place → ⊥)
+
+-- the place is admitted, and the first `count` calls that are tried there are done with
+abbrev pub IsTriedTo : Setting → AimValue → (seed : ℕ) → (place : List ℕ) → (count : ℕ) → Type 0
+IsTriedTo g aim seed place count =
+    aim.admits place
+    × ((cpu : ℕ) → cpu < length g.scripts → number_at (length g.scripts) seed (length place) cpu < count
+    → IsCallDone g aim (place ++ cpu ∷ []))
+
+-- each place on the path before this one is admitted, and the calls that are tried there before the one
+-- that leads on are done with
+abbrev pub AreTriedTo : Setting → AimValue → (seed : ℕ) → (place : List ℕ) → Type 0
+AreTriedTo g aim seed place =
+    (before : List ℕ) (cpu : ℕ) → Extends place (before ++ cpu ∷ [])
+    → IsTriedTo g aim seed before (number_at (length g.scripts) seed (length before) cpu)
+
 -- ---- a search
 
--- the state of a search: its path, the schedule of that path, the processor whose call is tried next,
--- and the places that it has visited
-pub record SearchValue : Type 0 where
-  pub path : PathValue
-  pub schedule : List ℕ
-  pub next : ℕ
-  pub visited : Visited
+-- a search with this seed is at the place of the path, or has just come to it
+pub record IsPlaced (aim : AimValue) (seed : ℕ) (p : PathValue) (v : Visited) : Type 0 where
+  pub along : HasRoomAlong p.setting (schedule_of p.news)
+  pub earlier : AreTriedTo p.setting aim seed (schedule_of p.news)
+  pub way : AreFollowed p.setting p.news v
+  pub base : KeepNumbers ([] ∷ []) v.stops.lists
 
--- the state of a search, made of its parts
-abbrev pub search_at : (path : PathValue) → (schedule : List ℕ) → (next : ℕ) → Visited → SearchValue
-search_at path schedule next visited =
-    record { path = path; schedule = schedule; next = next; visited = visited }
+-- the search is at an admitted place, and tries the call with the number `next` there next
+pub record IsTrying (aim : AimValue) (seed : ℕ) (p : PathValue) (next : ℕ) (v : Visited) : Type 0 where
+  pub placed : IsPlaced aim seed p v
+  pub tried : IsTriedTo p.setting aim seed (schedule_of p.news) next
+  pub visited : AreVisited p.setting aim (schedule_of p.news) v
 
--- each place on the path before this one is admitted: the aim lets the search come to it
-abbrev pub AreAdmitted : AimValue → (place : List ℕ) → Type 0
-AreAdmitted aim place =
-    (start : List ℕ) (cpu : ℕ) → Extends place (start ++ cpu ∷ []) → aim.admits start
+-- the search has just come to its place, by a call that may be tried. Each stored key belongs to a place
+-- that is done, or that is on the path before this place
+pub record IsArriving (aim : AimValue) (seed : ℕ) (p : PathValue) (v : Visited) : Type 0 where
+  pub placed : IsPlaced aim seed p v
+  pub call : IsTried aim (schedule_of p.news)
+  pub visited : AreVisited p.setting aim call.before v
 
--- the search has passed everything before its next call. Its place and each place before it on the path
--- are admitted
-pub record IsSearching (aim : AimValue) (v : SearchValue) : Type 0 where
-  pub schedule : v.schedule ≡ schedule_of v.path.news
-  pub here : aim.admits v.schedule
-  pub on_way : AreAdmitted aim v.schedule
-  pub next : v.next ≤ length v.path.setting.scripts
-  pub room : length v.schedule ≤ room_of v.path.setting
-  pub along : HasRoomAlong v.path.setting v.schedule
-  pub none : NoneBefore aim (v.schedule ++ v.next ∷ [])
-  pub spared : aim.is_whole → HasRoomBefore v.path.setting (v.schedule ++ v.next ∷ [])
-  pub visited : AreVisited v.path.setting aim v.schedule v.visited
-  pub way : AreFollowed v.path.setting v.path.news v.visited
-
--- a bound on the number of steps left to the search
-abbrev pub turns_of : SearchValue → ℕ
-turns_of v = turns_left (length v.path.setting.scripts) (room_of v.path.setting) v.schedule v.next
+-- the search is done with its place
+pub record IsLeaving (aim : AimValue) (seed : ℕ) (p : PathValue) (v : Visited) : Type 0 where
+  pub placed : IsPlaced aim seed p v
+  pub visited : AreVisited p.setting aim (schedule_of p.news) v
+  pub done : IsDone p.setting aim (schedule_of p.news)
 
 -- a search before any call
-pub record IsBegun (g : Setting) (v : SearchValue) : Type 0 where
-  pub visited : Visited
-  pub is : v ≡ search_at (record { setting = g; news = [] }) [] 0 visited
-  pub none : visited.keys ≡ []
-  pub mergeable : visited.is_on ≡ true → AreMergeable g.scripts
-  pub way : AreFollowed g [] visited
+pub record IsBegun (g : Setting) (w : Search) : Type 0 where
+  pub path : w.path ≡ record { setting = g; news = [] }
+  pub schedule : w.schedule ≡ []
+  pub next : w.next ≡ 0
+  pub none : w.visited.keys ≡ []
+  pub mergeable : w.visited.is_on ≡ true → AreMergeable g.scripts
+  pub way : AreFollowed g [] w.visited
+  pub base : KeepNumbers ([] ∷ []) w.visited.stops.lists
 
--- the search has just come to its place, by a call that may be tried. It has passed everything before
--- the place. Each stored key belongs to a place that is done, or that is on the path before this place
-pub record IsArriving (aim : AimValue) (v : SearchValue) : Type 0 where
-  pub schedule : v.schedule ≡ schedule_of v.path.news
-  pub on_way : AreAdmitted aim v.schedule
-  pub room : length v.schedule ≤ room_of v.path.setting
-  pub along : HasRoomAlong v.path.setting v.schedule
-  pub none : NoneBefore aim v.schedule
-  pub spared : aim.is_whole → HasRoomBefore v.path.setting v.schedule
-  pub call : IsTried aim v.schedule
-  pub visited : AreVisited v.path.setting aim call.before v.visited
-  pub way : AreFollowed v.path.setting v.path.news v.visited
+-- ---- the result of a step
 
--- the search has gone on from `v` to `w`, which has fewer steps left
-pub record IsCloser (aim : AimValue) (v w : SearchValue) : Type 0 where
-  pub searching : IsSearching aim w
-  pub same : w.path.setting ≡ v.path.setting
-  pub fewer : turns_of w < turns_of v
+-- the search goes on in the setting `g`, with fewer steps left than `most`. What `keeps` says of its
+-- table of places holds at its place
+pub record IsOn (aim : AimValue) (seed : ℕ) (keeps : PathValue → Type 0) (g : Setting) (most : ℕ)
+    (w : Search) : Type 0 where
+  pub schedule : w.schedule ≡ schedule_of w.path.news
+  pub trying : IsTrying aim seed w.path w.next w.visited
+  pub kept : keeps w.path
+  pub same : w.path.setting ≡ g
+  pub fewer : turns_at seed w.path w.next < most
 
--- the result of one step: either the search went on, or it found the schedule to return, or it ended
--- without one (IsFirstSought)
-abbrev pub IsTurned : AimValue → SearchValue → SearchValue → Turn → Type 0
-IsTurned aim v w On = IsCloser aim v w
-IsTurned aim v w New = IsCloser aim v w
-IsTurned aim v w Found = IsFirstSought v.path.setting aim (Some w.schedule)
-IsTurned aim v w Over = IsFirstSought v.path.setting aim None
-
--- the search has gone on from the place that it came to. It has at most as many steps left as a search
--- that tries processor 0 next at that place
-pub record IsNear (aim : AimValue) (v w : SearchValue) : Type 0 where
-  pub searching : IsSearching aim w
-  pub same : w.path.setting ≡ v.path.setting
-  pub few : turns_of w ≤ turns_left (length v.path.setting.scripts) (room_of v.path.setting) v.schedule 0
-
--- the result after coming to a place: either the search went on, or it ended without a sought
--- schedule
-abbrev pub HasArrived : AimValue → SearchValue → SearchValue → Turn → Type 0
-HasArrived aim v w On = IsNear aim v w
-HasArrived aim v w New = IsNear aim v w
-HasArrived aim v w Found = ⊥
-HasArrived aim v w Over = IsFirstSought v.path.setting aim None
-
--- ---- taking calls back
-
--- the latest call was taken back, and the processor after the one that made it is tried next
-pub record IsTakenBack (v w : SearchValue) : Type 0 where
-  pub path : PathValue
-  pub cpu : ℕ
-  pub visited : Visited
-  pub back : IsBack v.path (Some cpu) path
-  pub is : w ≡ search_at path (schedule_of path.news) (cpu + 1) visited
-  pub kept : (visited.is_on ≡ v.visited.is_on) × (visited.keys ≡ v.visited.keys)
-  pub stops : AreSameStops v.visited.stops visited.stops
-  pub way : (g : Setting) (news : List Record) (r : Record) → AreFollowed g (news ++ r ∷ []) v.visited
-      → AreFollowed g news visited
-
--- the result of taking a call back: Over if there was no call
-abbrev pub IsUp : SearchValue → SearchValue → Turn → Type 0
-IsUp v w On = IsTakenBack v w
-IsUp v w New = ⊥
-IsUp v w Found = ⊥
-IsUp v w Over = v.path.news ≡ []
+-- the result of one step: either the search went on, or it found a schedule that the aim lets it return,
+-- or no schedule is left. With the seed 0, it is the first schedule that is sought
+abbrev pub HasTurned : AimValue → (seed : ℕ) → (keeps : PathValue → Type 0) → Setting → (most : ℕ) → Search
+    → Turn → Type 0
+HasTurned aim seed keeps g most w On = IsOn aim seed keeps g most w
+HasTurned aim seed keeps g most w New = IsOn aim seed keeps g most w
+HasTurned aim seed keeps g most w Found = seed ≡ 0 → IsFirstSought g aim (Some w.schedule)
+HasTurned aim seed keeps g most w Over = IsDone g aim []

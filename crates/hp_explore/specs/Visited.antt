@@ -1,10 +1,10 @@
 -- The places that a search has visited, each by its key.
-use Rattle.std.specs.Prelude.{◌≡◌, ◌⊎◌, ℕ, Bool, true, false, List, [], ◌∷◌, ◌++◌, None, Some, length, slice_get}
+use Rattle.std.specs.Prelude.{◌≡◌, ◌⊎◌, ℕ, true, List, [], ◌∷◌, ◌++◌, None, Some, length, slice_get}
 use Rattle.hp_units.specs.History.{value_of}
 use Rattle.hp_units.specs.Memory.{Memory}
 use Rattle.hp_units.specs.Placement.{IsShaped}
 use Rattle.hp_units.specs.declared.replies.Record.{Record}
-use Rattle.hp_renumbering.specs.Renumbered.{renumbered}
+use Rattle.hp_laws.specs.Renumbered.{renumbered}
 use Rattle.hp_schedules.specs.Alike.{AreMergeable}
 use Rattle.hp_schedules.specs.Orders.{Extends}
 use Rattle.hp_schedules.specs.Schedules.{Setting, plays, schedule_of}
@@ -93,8 +93,3 @@ abbrev pub IsKept : Setting → AimValue → List Record → Visited → Visited
 IsKept g aim news old new =
     (new.keys ≡ old.keys)
     ⊎ ((key : List ℕ) × (new.keys ≡ old.keys ++ key ∷ []) × IsPlaceKey g aim new.stops news key)
-
--- either the place is known, or its key may have been added
-abbrev pub IsLookedUp : Setting → AimValue → List Record → Visited → Visited → (known : Bool) → Type 0
-IsLookedUp g aim news old new true = (new.keys ≡ old.keys) × IsKnown g aim news new
-IsLookedUp g aim news old new false = IsKept g aim news old new

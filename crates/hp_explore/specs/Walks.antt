@@ -5,7 +5,7 @@ use Rattle.hp_units.specs.declared.events.Event.{Event}
 use Rattle.hp_units.specs.declared.events.Event.TheVariants.{UndoAfter}
 use Rattle.hp_units.specs.declared.replies.Record.{Record}
 use Rattle.hp_machine.specs.Machine.{MachineValue}
-use Rattle.hp_steps.specs.Steps.{StepsValue}
+use Rattle.hp_memory.specs.Steps.{StepsValue}
 use Rattle.hp_states.specs.Rooms.{HasNoRoom}
 use Rattle.hp_states.specs.Walks.{IsAt}
 use Rattle.hp_schedules.specs.Schedules.{Setting, next_call, plays, schedule_of}

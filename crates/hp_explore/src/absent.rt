@@ -1,13 +1,16 @@
 //! Whether no schedule ends as wanted, by a search in several threads.
-ghost use Rattle.std.specs.Prelude.{◌≡◌, ◌<◌, ◌^◌, ℕ, [], None, Some, length, slice_get, true};
-ghost use Rattle.std.specs.Thread.{IsSync};
+ghost use Rattle.std.specs.Prelude.{◌≡◌, ◌<◌, ◌^◌, ℕ, [], IfOk, None, Some, length, slice_get, true};
+ghost use Rattle.std.specs.Thread.{IsSend, IsSync};
 ghost use Rattle.hp_explore.specs.Aims.{IsDone};
 ghost use Rattle.hp_explore.specs.Reaching.{IsFirstWithin};
 ghost use Rattle.hp_explore.specs.Settings.{setting};
 ghost use Rattle.hp_explore.specs.Withins.{aim_within};
 
-use crate::beside::Beside;
+use crate::ExploreFault;
 use crate::done_places::{DonePlaces, Question};
+use crate::path_keys::PathKeys;
+use crate::places::SharedPlaces;
+use crate::searching::{Search, Turn};
 use crate::walk::keeps_places;
 use crate::within::Within;
 use hp_machine::Machine;
@@ -45,8 +48,8 @@ pub(crate) fn is_absent<R: Threads + Wait + Sync>(
     is_over_in_one::<Brand, R>(rt, alloc, machine, scripts, wanted, jobs, memory / 2)
 }
 
-/// Walks in `jobs` threads, and returns whether one of them came to an end.
-fn is_over_in_one<Q: Question, R: Threads + Wait + Sync>(
+/// Searches in `jobs` threads, and returns whether one of them came to the end of its search.
+fn is_over_in_one<Q: Question + Send, R: Threads + Wait + Sync>(
     rt: &R,
     alloc: Global,
     machine: &Machine,
@@ -56,7 +59,6 @@ fn is_over_in_one<Q: Question, R: Threads + Wait + Sync>(
     memory: u64,
 ) -> bool
     requires few { length scripts.now < 2 ^ 32 }
-    requires some { 0 < length scripts.now }
     requires jobs { 0 < jobs }
     requires question { (Q.setting ≡ setting machine.now scripts.now) × (Q.wanted ≡ wanted.now) }
     ensures { result ≡ true → IsDone Q.setting (aim_within Q.setting Q.wanted None) [] }
@@ -66,7 +68,7 @@ fn is_over_in_one<Q: Question, R: Threads + Wait + Sync>(
     };
     let share = memory / u64::from(jobs);
     let walk = |index: usize| -> bool
-        requires { IsSync R.row × (length scripts.now < 2 ^ 32) × (0 < length scripts.now)
+        requires { IsSend Q.row × IsSync R.row × (length scripts.now < 2 ^ 32)
             × (Q.setting ≡ setting machine.now scripts.now) × (Q.wanted ≡ wanted.now) }
         ensures { result ≡ true → IsDone Q.setting (aim_within Q.setting Q.wanted None) [] }
     {
@@ -87,7 +89,8 @@ fn is_over_in_one<Q: Question, R: Threads + Wait + Sync>(
     }
 }
 
-/// Walks in one thread, tells the others to stop, and returns whether the walk came to its end.
+/// Searches in one thread, tells the others to stop, and returns whether the search came to its
+/// end.
 fn is_over<Q: Question, R: Wait>(
     rt: &R,
     alloc: Global,
@@ -99,24 +102,57 @@ fn is_over<Q: Question, R: Wait>(
     done: &DonePlaces<Q>,
 ) -> bool
     requires few { length scripts.now < 2 ^ 32 }
-    requires some { 0 < length scripts.now }
     requires question { (Q.setting ≡ setting machine.now scripts.now) × (Q.wanted ≡ wanted.now) }
     ensures { result ≡ true → IsDone Q.setting (aim_within Q.setting Q.wanted None) [] }
 {
-    let aim = Within {
-        alloc,
-        wanted,
-        budget: None,
-    };
-    let Ok(mut walk) = Beside::start(alloc, machine, scripts, seed) else {
-        done.stop();
-        return false;
-    };
-    let over = walk.run(rt, alloc, &aim, done, memory);
+    let over = are_all_done(rt, alloc, machine, scripts, wanted, seed, memory, done);
     done.stop();
     match over {
         Ok(over) => over,
         Err(_fault) => false,
+    }
+}
+
+/// Searches until each schedule is done with, and returns true. Returns false if it stopped before:
+/// at a schedule that ends as wanted, for lack of memory, or because the threads are to stop.
+fn are_all_done<Q: Question, R: Wait>(
+    rt: &R,
+    alloc: Global,
+    machine: &Machine,
+    scripts: &[CallScript],
+    wanted: &[Wanted],
+    seed: u64,
+    memory: u64,
+    done: &DonePlaces<Q>,
+) -> Result<bool, ExploreFault>
+    requires few { length scripts.now < 2 ^ 32 }
+    requires question { (Q.setting ≡ setting machine.now scripts.now) × (Q.wanted ≡ wanted.now) }
+    ensures { IfOk result (λ over. over ≡ true
+        → IsDone Q.setting (aim_within Q.setting Q.wanted None) []) }
+{
+    let processors = scripts.len() as u32;
+    let mut aim = Within {
+        alloc,
+        wanted,
+        budget: None,
+    };
+    let mut places = SharedPlaces {
+        rt,
+        done,
+        keys: PathKeys::new(alloc),
+    };
+    let mut search = Search::start(alloc, machine, scripts, processors)?;
+    'turns: loop {
+        match search.turn(alloc, processors, seed, &mut aim, &mut places)? {
+            Turn::On => {}
+            Turn::New => {
+                if done.is_stopped() || search.bytes() > memory {
+                    return Ok(false);
+                }
+            }
+            Turn::Found => return Ok(false),
+            Turn::Over => return Ok(true),
+        }
     }
 }
 

@@ -4,7 +4,7 @@ ghost use Rattle.hp_schedules.specs.Schedules.{Setting, schedule_of};
 ghost use Rattle.hp_explore.specs.Aims.{AimValue, IsLawful, IsNarrower, IsTried, MayBeSkipped};
 
 use crate::path::Path;
-use hp_units::Cpu;
+use crate::schedule::Schedule;
 use std::alloc::{AllocError, Global};
 
 /// Decides what a search looks for, and where it goes.
@@ -30,7 +30,7 @@ pub trait Aim {
 
     /// Returns whether the processor's next call may be tried. If not, no sought schedule makes it
     /// here, and the aim is not whole.
-    fn may_try(&self, path: &Path<'_>, schedule: &[Cpu], cpu: u32) -> bool
+    fn may_try(&self, path: &Path<'_>, schedule: &Schedule, cpu: u32) -> bool
         requires schedule { schedule.now ≡ schedule_of path.now.news }
         requires admitted { (shows self.now path.now.setting).admits schedule.now }
         ensures tried { result ≡ true → (shows self.now path.now.setting).tries schedule.now cpu }
@@ -39,7 +39,7 @@ pub trait Aim {
 
     /// Returns whether the search goes on from the place that the latest call led to. If not, no
     /// sought schedule continues from it, and the aim is not whole.
-    fn admits(&self, path: &Path<'_>, schedule: &[Cpu], processors: u32) -> bool
+    fn admits(&self, path: &Path<'_>, schedule: &Schedule, processors: u32) -> bool
         requires processors { processors ≡ length path.now.setting.scripts }
         requires schedule { schedule.now ≡ schedule_of path.now.news }
         requires called { IsTried (shows self.now path.now.setting) schedule.now }
@@ -52,7 +52,7 @@ pub trait Aim {
     fn push_marks(
         &self,
         path: &Path<'_>,
-        schedule: &[Cpu],
+        schedule: &Schedule,
         processors: u32,
         numbers: &mut Vec<u32>,
     ) -> Result<bool, AllocError>
@@ -69,7 +69,7 @@ pub trait Aim {
         &mut self,
         alloc: Global,
         path: &Path<'_>,
-        schedule: &[Cpu],
+        schedule: &Schedule,
         processors: u32,
     ) -> Result<bool, AllocError>
         requires processors { processors ≡ length path.now.setting.scripts }

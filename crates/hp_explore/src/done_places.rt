@@ -14,7 +14,7 @@ const PARTS: usize = 64;
 
 /// A type that names one question in the proofs: the setting of its scripts, and the wanted lines.
 /// Callers pass `Brand`, for which the proof of each call chooses these.
-pub(crate) trait Question: Send {
+pub(crate) trait Question {
     ghost use Rattle.std.specs.Prelude.{List};
     ghost use Rattle.hp_schedules.specs.Schedules.{Setting};
     ghost use Rattle.hp_questions.specs.declared.wanted.Wanted.{Wanted};

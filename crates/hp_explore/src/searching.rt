@@ -1,15 +1,16 @@
-//! The search for the first schedule that an aim seeks: depth first, processor 0 first, each place
-//! once.
-ghost use Rattle.std.specs.Prelude.{◌≡◌, ◌<◌, ◌+◌, ◌++◌, ◌∷◌, ◌^◌, ℕ, List, [], IfErr, IfOk, OnOk, false, length, option_map, true};
+//! The search for a schedule that an aim seeks: depth first, each place once.
+ghost use Rattle.std.specs.Prelude.{◌≡◌, ◌<◌, ◌+◌, ◌++◌, ◌∷◌, ◌^◌, ℕ, List, [], IfErr, IfOk, OnOk, length, option_map};
 ghost use Rattle.hp_schedules.specs.Schedules.{schedule_of};
-ghost use Rattle.hp_explore.specs.Aims.{IsDone, IsFirstSought, IsSearchCause, IsTurnCause};
-ghost use Rattle.hp_explore.specs.Searches.{HasArrived, IsArriving, IsBegun, IsSearching, IsTurned, IsUp};
+ghost use Rattle.hp_explore.specs.Aims.{IsFirstSought, IsSearchCause, IsTurnCause};
+ghost use Rattle.hp_explore.specs.Searches.{HasTurned, IsArriving, IsBegun, IsLeaving, IsTrying, turns_at};
 ghost use Rattle.hp_explore.specs.Settings.{setting};
-ghost use Rattle.hp_explore.specs.Visited.{AreFollowed, AreVisited};
 ghost use Rattle.hp_explore.specs.declared.fault.FindFault.TheVariants.{Stopped};
 
 use crate::aim::Aim;
 use crate::fault::FindFault;
+use crate::places::{OwnPlaces, Places};
+use crate::rotation::{cpu_at, number_at};
+use crate::schedule::Schedule;
 use crate::turns::latest;
 use crate::visited::Visited;
 use crate::{ExploreFault, Path, Watch};
@@ -17,11 +18,10 @@ use hp_machine::Machine;
 use hp_schedules::CallScript;
 use hp_units::Cpu;
 use std::alloc::{AllocError, Global};
-use std::marker::Model;
 
 /// The result of one step of a search.
-#[derive(Clone, Copy, PartialEq, Eq, Drop)]
-enum Turn {
+#[derive(Clone, Copy, Drop)]
+pub(crate) enum Turn {
     /// The search continues.
     On,
     /// The search has come to a place from which it goes on.
@@ -32,27 +32,14 @@ enum Turn {
     Over,
 }
 
-/// The state of a search: a place, its schedule, the processor whose call is tried next, and the
-/// places that it has visited.
+/// The state of a search: a place, its schedule, the number of the call that is tried next in the
+/// order of the search, and the places that it has visited.
 #[derive(Drop)]
-struct Search<'a> {
+pub(crate) struct Search<'a> {
     path: Path<'a>,
-    schedule: Vec<Cpu>,
+    schedule: Schedule,
     next: u32,
     visited: Visited,
-}
-
-impl<'a> Model for Search<'a> {
-    ghost use Rattle.hp_explore.specs.Searches.{SearchValue};
-
-    ghost Value = { SearchValue };
-
-    ghost view = { λ s. record {
-      path = s.path;
-      schedule = s.schedule.items;
-      next = s.next;
-      visited = s.visited;
-    } };
 }
 
 /// Returns the first schedule that meets the aim (`Aim::is_met`), or `None` if no schedule is
@@ -86,9 +73,10 @@ pub fn first_sought<A: Aim, W: Watch>(
     ensures stopped { IfErr result (λ fault. fault ≡ Stopped → W.has_ended watch.new) }
 {
     let processors = scripts.len() as u32;
+    let mut own = OwnPlaces;
     let mut search = Search::start(alloc, machine, scripts, processors)?;
     'turns: loop {
-        match search.turn(alloc, processors, aim)? {
+        match search.turn(alloc, processors, 0, aim, &mut own)? {
             Turn::On => {}
             Turn::New => {
                 *places = places.saturating_add(1);
@@ -104,7 +92,7 @@ pub fn first_sought<A: Aim, W: Watch>(
 
 impl<'a> Search<'a> {
     /// Creates a search before any call.
-    fn start(
+    pub(crate) fn start(
         alloc: Global,
         machine: &'a Machine,
         scripts: &'a [CallScript],
@@ -117,147 +105,155 @@ impl<'a> Search<'a> {
         let visited = Visited::start(alloc, machine, scripts, &path, processors)?;
         Ok(Search {
             path,
-            schedule: Vec::new(alloc),
+            schedule: Schedule::new(alloc),
             next: 0,
             visited,
         })
     }
 
-    /// Makes one step of the search: makes a call, tries the next processor, or goes back.
-    fn turn<A: Aim>(
+    /// Makes one step of the search: tries the next call of the place, or leaves the place once all
+    /// have been tried. Searches with different seeds try the processors in different orders; with
+    /// the seed 0, processor 0 comes first at each place, and then those above it.
+    pub(crate) fn turn<A: Aim, T: Places<A>>(
         &mut self,
         alloc: Global,
         processors: u32,
+        seed: u64,
         aim: &mut A,
+        places: &mut T,
     ) -> Result<Turn, ExploreFault>
-        requires searching { IsSearching (A.shows aim.old self.old.path.setting) self.old }
         requires processors { processors ≡ length self.old.path.setting.scripts }
+        requires schedule { self.old.schedule ≡ schedule_of self.old.path.news }
+        requires trying { IsTrying (A.shows aim.old self.old.path.setting) seed self.old.path
+            self.old.next self.old.visited }
+        requires kept { T.keeps places.old aim.old self.old.path }
         ensures becomes { A.becomes aim.old self.old.path.setting aim.new }
-        ensures ok { IfOk result (IsTurned (A.shows aim.new self.old.path.setting) self.old self.new) }
-        ensures err { IfErr result
-            (IsTurnCause self.old.path.setting (A.shows aim.new self.old.path.setting)) }
+        ensures ok { IfOk result (HasTurned (A.shows aim.new self.old.path.setting) seed
+            (T.keeps places.new aim.new) self.old.path.setting
+            (turns_at seed self.old.path self.old.next) self.new) }
+        ensures err { IfErr result (λ fault. seed ≡ 0 → IsTurnCause self.old.path.setting
+            (A.shows aim.new self.old.path.setting) fault) }
     {
-        self.path.is_played();
         if self.next < processors {
-            return self.down(alloc, processors, aim);
+            return self.down(alloc, processors, seed, aim, places);
         }
-        if aim.is_met(alloc, &self.path, self.schedule.as_slice(), processors)? {
+        self.path.is_played();
+        if aim.is_met(alloc, &self.path, &self.schedule, processors)? {
             return Ok(Turn::Found);
         }
-        Ok(self.up())
+        let turn = self.up(processors, seed, aim, places)?;
+        Ok(turn)
     }
 
-    /// Makes the next processor's call. Moves on to the processor after it if the aim rules the
-    /// call out or the script is finished. Takes the call back if nothing that continues from the
-    /// new place has to be tried.
-    fn down<A: Aim>(
+    /// Tries the next call of the place: makes it, unless the aim rules it out or the script is
+    /// finished. Takes the call back if nothing that continues from the new place has to be tried.
+    fn down<A: Aim, T: Places<A>>(
         &mut self,
         alloc: Global,
         processors: u32,
+        seed: u64,
         aim: &A,
+        places: &mut T,
     ) -> Result<Turn, ExploreFault>
-        requires searching { IsSearching (A.shows aim.now self.old.path.setting) self.old }
         requires processors { processors ≡ length self.old.path.setting.scripts }
         requires some { self.old.next < processors }
-        ensures ok { IfOk result (IsTurned (A.shows aim.now self.old.path.setting) self.old self.new) }
-        ensures err { IfErr result
-            (IsTurnCause self.old.path.setting (A.shows aim.now self.old.path.setting)) }
+        requires schedule { self.old.schedule ≡ schedule_of self.old.path.news }
+        requires trying { IsTrying (A.shows aim.now self.old.path.setting) seed self.old.path
+            self.old.next self.old.visited }
+        requires kept { T.keeps places.old aim.now self.old.path }
+        ensures ok { IfOk result (HasTurned (A.shows aim.now self.old.path.setting) seed
+            (T.keeps places.new aim.now) self.old.path.setting
+            (turns_at seed self.old.path self.old.next) self.new) }
+        ensures err { IfErr result (λ fault. seed ≡ 0 → IsTurnCause self.old.path.setting
+            (A.shows aim.now self.old.path.setting) fault) }
     {
         self.path.is_played();
-        if !aim.may_try(&self.path, self.schedule.as_slice(), self.next) {
+        let cpu = cpu_at(processors, seed, self.schedule.len(), self.next);
+        if !aim.may_try(&self.path, &self.schedule, cpu) {
             self.next += 1;
             return Ok(Turn::On);
         }
-        self.schedule.reserve(1)?;
-        if !self.path.forward(alloc, self.next)? {
+        if !self.path.forward(alloc, cpu)? {
             self.next += 1;
             return Ok(Turn::On);
         }
-        self.schedule.push_reserved(Cpu(self.next));
+        self.schedule.push(Cpu(cpu))?;
         self.visited.go_on(
             latest(self.path.records()),
             self.path.positions(),
             processors,
         )?;
-        let turn = self.arrive(alloc, processors, aim)?;
+        let turn = self.arrive(alloc, processors, seed, aim, places)?;
         Ok(turn)
     }
 
-    /// Decides whether the search goes on from the place just reached. Takes the call back if
-    /// nothing that continues from the place has to be tried.
-    fn arrive<A: Aim>(
+    /// Goes on from the place just reached. Takes the call back if nothing that continues from the
+    /// place has to be tried: the aim does not admit it, or it is done or was visited.
+    fn arrive<A: Aim, T: Places<A>>(
         &mut self,
         alloc: Global,
         processors: u32,
+        seed: u64,
         aim: &A,
+        places: &mut T,
     ) -> Result<Turn, AllocError>
-        requires arriving { IsArriving (A.shows aim.now self.old.path.setting) self.old }
         requires processors { processors ≡ length self.old.path.setting.scripts }
-        ensures { IfOk result (HasArrived (A.shows aim.now self.old.path.setting) self.old self.new) }
+        requires schedule { self.old.schedule ≡ schedule_of self.old.path.news }
+        requires arriving { IsArriving (A.shows aim.now self.old.path.setting) seed self.old.path
+            self.old.visited }
+        requires kept { T.keeps places.old aim.now self.old.path }
+        ensures { IfOk result (HasTurned (A.shows aim.now self.old.path.setting) seed
+            (T.keeps places.new aim.now) self.old.path.setting
+            (turns_at seed self.old.path 0 + 1) self.new) }
     {
         self.path.is_played();
-        if self.is_done(alloc, processors, aim)? {
-            return Ok(self.up());
+        if !aim.admits(&self.path, &self.schedule, processors) {
+            return self.up(processors, seed, aim, places);
+        }
+        if self
+            .visited
+            .look_up(alloc, &self.path, &self.schedule, processors, aim, places)?
+        {
+            return self.up(processors, seed, aim, places);
         }
         self.next = 0;
         Ok(Turn::New)
     }
 
-    /// Returns whether nothing that continues from the place just reached has to be tried: the aim
-    /// does not admit it, or it has been visited. Otherwise keeps the place.
-    fn is_done<A: Aim>(
+    /// Leaves the place, which is done: takes the latest call back, and moves on to the call after
+    /// it. Returns `Over` if there is no call.
+    fn up<A: Aim, T: Places<A>>(
         &mut self,
-        alloc: Global,
         processors: u32,
+        seed: u64,
         aim: &A,
-    ) -> Result<bool, AllocError>
-        requires arriving { IsArriving (A.shows aim.now self.old.path.setting) self.old }
+        places: &mut T,
+    ) -> Result<Turn, AllocError>
         requires processors { processors ≡ length self.old.path.setting.scripts }
-        ensures same { OnOk result
-            ((self.new.path ≡ self.old.path) × (self.new.schedule ≡ self.old.schedule)) }
-        ensures visited { OnOk result (AreVisited self.old.path.setting
-            (A.shows aim.now self.old.path.setting) self.old.schedule self.new.visited) }
-        ensures way { OnOk result (AreFollowed self.old.path.setting self.old.path.news self.new.visited) }
-        ensures done { IfOk result (λ done. done ≡ true → IsDone self.old.path.setting
-            (A.shows aim.now self.old.path.setting) self.old.schedule) }
-        ensures admitted { IfOk result (λ done. done ≡ false
-            → (A.shows aim.now self.old.path.setting).admits self.old.schedule) }
-    {
-        self.path.is_played();
-        if !aim.admits(&self.path, self.schedule.as_slice(), processors) {
-            return Ok(true);
-        }
-        let known = self.visited.look_up(
-            alloc,
-            &self.path,
-            self.schedule.as_slice(),
-            processors,
-            aim,
-        )?;
-        Ok(known)
-    }
-
-    /// Takes the latest call back and moves on to the processor after the one that made it. Returns
-    /// `Over` if there is no call.
-    fn up(&mut self) -> Turn
         requires schedule { self.old.schedule ≡ schedule_of self.old.path.news }
-        requires room { length self.old.path.setting.scripts < 2 ^ 32 }
-        ensures { IsUp self.old self.new result }
+        requires leaving { IsLeaving (A.shows aim.now self.old.path.setting) seed self.old.path
+            self.old.visited }
+        requires kept { T.keeps places.old aim.now self.old.path }
+        ensures { IfOk result (λ turn. (next : ℕ) → HasTurned (A.shows aim.now self.old.path.setting) seed
+            (T.keeps places.new aim.now) self.old.path.setting
+            (turns_at seed self.old.path next) self.new turn) }
     {
+        places.leave(aim, &self.path)?;
         self.path.is_played();
         match self.path.back() {
             Some(cpu) => {
-                let _latest = self.schedule.pop();
+                self.schedule.pop();
                 self.visited.go_back();
-                self.next = cpu.0 + 1;
-                Turn::On
+                self.path.is_played();
+                self.next = number_at(processors, seed, self.schedule.len(), cpu.0) + 1;
+                Ok(Turn::On)
             }
-            None => Turn::Over,
+            None => Ok(Turn::Over),
         }
     }
 
     /// Returns about how many bytes the visited places take.
-    fn bytes(&self) -> u64 {
+    pub(crate) fn bytes(&self) -> u64 {
         self.visited.bytes()
     }
 
@@ -266,6 +262,6 @@ impl<'a> Search<'a> {
         ensures { result.items ≡ self.entry.schedule }
     {
         let Search { schedule, .. } = self;
-        schedule
+        schedule.into_vec()
     }
 }

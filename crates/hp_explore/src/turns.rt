@@ -3,7 +3,7 @@ ghost use Rattle.std.specs.Prelude.{◌≡◌, ◌<◌, ◌≤◌, [], ◌∷◌
 ghost use Rattle.hp_units.specs.History.{effect_of};
 ghost use Rattle.hp_units.specs.declared.replies.Record.{Record as NewRecord};
 ghost use Rattle.hp_machine.specs.Machine.{IsHistory};
-ghost use Rattle.hp_steps.specs.Steps.{StepsValue};
+ghost use Rattle.hp_memory.specs.Steps.{StepsValue};
 ghost use Rattle.hp_schedules.specs.Cursors.{AreCursors};
 ghost use Rattle.hp_explore.specs.Faults.{FillsAlong, IsCauseHere};
 ghost use Rattle.hp_states.specs.Rooms.{is_full_after};
@@ -18,8 +18,8 @@ use crate::exploring::ExploreFault;
 use crate::playing::{play, records_from};
 use crate::ways::{Turn, Way};
 use hp_machine::Machine;
+use hp_memory::Steps;
 use hp_schedules::{CallScript, Positions, schedule_of};
-use hp_steps::Steps;
 use hp_units::{Cpu, Event, Record, Refusal, Reply, Serial};
 use std::alloc::{AllocError, Global};
 

@@ -1,40 +1,36 @@
 //! The places that a search has visited, each by its key.
-ghost use Rattle.std.specs.Prelude.{◌≡◌, ◌++◌, ◌∷◌, ℕ, List, IfOk, None, OnOk, Some, [], length, slice_get, true};
+ghost use Rattle.std.specs.Prelude.{◌≡◌, ◌++◌, ◌∷◌, ℕ, List, IfOk, OnOk, Some, [], length, slice_get, true};
 ghost use Rattle.hp_units.specs.History.{effect_of};
 ghost use Rattle.hp_units.specs.declared.replies.Record.{Record as NewRecord};
-ghost use Rattle.hp_renumbering.specs.Numberings.{number_of};
+ghost use Rattle.hp_laws.specs.Numberings.{number_of};
 ghost use Rattle.hp_schedules.specs.Alike.{AreMergeable, leaves_steps};
 ghost use Rattle.hp_schedules.specs.Cursors.{AreCursors};
 ghost use Rattle.hp_schedules.specs.Schedules.{Setting, schedule_of};
 ghost use Rattle.hp_states.specs.Stops.{AreSameStops, KeepStops};
 ghost use Rattle.hp_explore.specs.Settings.{setting};
 ghost use Rattle.hp_explore.specs.Aims.{AreSteered};
-ghost use Rattle.hp_explore.specs.Visited.{AreFollowed, ArePlaceNumbers, IsLookedUp, IsWritten};
-ghost use Rattle.hp_explore.specs.LookedUp.{IsLookedUpBeside};
-ghost use Rattle.hp_explore.specs.PathKeys.{ArePathKeys};
-ghost use Rattle.hp_explore.specs.Withins.{aim_within};
+ghost use Rattle.hp_explore.specs.Visited.{AreFollowed, ArePlaceNumbers, IsWritten};
+ghost use Rattle.hp_explore.specs.LookedUp.{IsLookedUp};
 ghost use Rattle.hp_states.specs.Interned.{KeepNumbers};
 
 use crate::aim::Aim;
-use crate::done_places::{DonePlaces, Question};
 use crate::latest_ops::LatestOps;
 use crate::path::Path;
-use crate::path_keys::PathKeys;
+use crate::places::Places;
+use crate::schedule::Schedule;
 use crate::walk::keeps_places;
-use crate::within::Within;
 use hp_machine::Machine;
 use hp_schedules::{CallScript, Positions, greatest_named, is_closed};
 use hp_states::{PlaceCode, PlaceSet, Stops};
-use hp_units::{Cpu, Record, Serial};
+use hp_units::{Record, Serial};
 use std::alloc::{AllocError, Global};
-use std::sync::Wait;
 
 /// The keys of the places that a search has visited, and the numbers of the place where it is.
 ///
 /// Two places with the same key continue alike: with the same calls, and the aim seeks the same
 /// continuations. So only one of them is tried. In keys, an operation in `latest` that is above
 /// `fixed` has a number that depends only on its processor, since it does not matter when it began.
-/// `numbers` is what was written last, and so is `key`, unless `PathKeys` has it. If `is_on` is
+/// `numbers` is what was written last, and so is `key`, unless `Places` has it. If `is_on` is
 /// false, no place is ever kept.
 pub(crate) struct Visited {
     is_on: bool,
@@ -130,25 +126,29 @@ impl Visited {
         }
     }
 
-    /// Returns whether a place with the same key as this one was visited. If not, keeps the key,
-    /// unless the place has none.
-    pub(crate) fn look_up<A: Aim>(
+    /// Returns whether the place is done or was visited: a place with the same key is found
+    /// (`Places::look_up`). If not, keeps the key, unless the place has none.
+    pub(crate) fn look_up<A: Aim, T: Places<A>>(
         &mut self,
         alloc: Global,
         path: &Path<'_>,
-        schedule: &[Cpu],
+        schedule: &Schedule,
         processors: u32,
         aim: &A,
+        places: &mut T,
     ) -> Result<bool, AllocError>
         requires processors { processors ≡ length path.now.setting.scripts }
         requires schedule { schedule.now ≡ schedule_of path.now.news }
         requires admitted { (A.shows aim.now path.now.setting).admits schedule.now }
         requires way { AreFollowed path.now.setting path.now.news self.old }
+        requires base { KeepNumbers ([] ∷ []) self.old.stops.lists }
+        requires places { T.keeps places.old aim.now path.now }
         ensures on { OnOk result (self.new.is_on ≡ self.old.is_on) }
         ensures kept { OnOk result (KeepStops self.old.stops self.new.stops) }
         ensures way { OnOk result (AreFollowed path.now.setting path.now.news self.new) }
         ensures ok { IfOk result (IsLookedUp path.now.setting (A.shows aim.now path.now.setting)
             path.now.news self.old self.new) }
+        ensures places { OnOk result (T.keeps places.new aim.now path.now) }
     {
         if !self.is_on {
             return Ok(false);
@@ -156,54 +156,8 @@ impl Visited {
         if !self.write_key(path, schedule, processors, aim)? {
             return Ok(false);
         }
-        if self.keys.find_or_add(&self.key)? {
-            return Ok(true);
-        }
-        self.number_before_begin(alloc, path)?;
-        Ok(false)
-    }
-
-    /// Returns whether the place is done: a thread has told this of a place with the same key, or
-    /// it was visited. If not, keeps the key: in `on_path`, if it means the same in each thread.
-    pub(crate) fn look_up_beside<Q: Question, R: Wait>(
-        &mut self,
-        rt: &R,
-        alloc: Global,
-        path: &Path<'_>,
-        schedule: &[Cpu],
-        processors: u32,
-        aim: &Within<'_>,
-        done: &DonePlaces<Q>,
-        on_path: &mut PathKeys,
-    ) -> Result<bool, AllocError>
-        requires processors { processors ≡ length path.now.setting.scripts }
-        requires schedule { schedule.now ≡ schedule_of path.now.news }
-        requires setting { path.now.setting ≡ Q.setting }
-        requires aim { (aim.now.wanted.now ≡ Q.wanted) × (aim.now.budget ≡ None) }
-        requires way { AreFollowed path.now.setting path.now.news self.old }
-        requires base { KeepNumbers ([] ∷ []) self.old.stops.lists }
-        requires on_path { ArePathKeys Q.setting (aim_within Q.setting Q.wanted None) path.now.news
-            on_path.old }
-        ensures on { OnOk result (self.new.is_on ≡ self.old.is_on) }
-        ensures kept { OnOk result (KeepStops self.old.stops self.new.stops) }
-        ensures way { OnOk result (AreFollowed path.now.setting path.now.news self.new) }
-        ensures ok { IfOk result (IsLookedUpBeside Q.setting (aim_within Q.setting Q.wanted None)
-            path.now.news self.old self.new) }
-        ensures on_path { OnOk result (ArePathKeys Q.setting (aim_within Q.setting Q.wanted None)
-            path.now.news on_path.new) }
-    {
-        if !self.is_on {
-            return Ok(false);
-        }
-        if !self.write_key(path, schedule, processors, aim)? {
-            return Ok(false);
-        }
-        if self.is_common() {
-            if done.has(rt, &self.key) {
-                return Ok(true);
-            }
-            on_path.keep(alloc, schedule.len(), &mut self.key)?;
-        } else if self.keys.find_or_add(&self.key)? {
+        let is_common = self.is_common();
+        if places.look_up(alloc, aim, path, is_common, &mut self.keys, &mut self.key)? {
             return Ok(true);
         }
         self.number_before_begin(alloc, path)?;
@@ -215,7 +169,7 @@ impl Visited {
     fn write_key<A: Aim>(
         &mut self,
         path: &Path<'_>,
-        schedule: &[Cpu],
+        schedule: &Schedule,
         processors: u32,
         aim: &A,
     ) -> Result<bool, AllocError>
@@ -274,7 +228,7 @@ impl Visited {
     fn write_numbers<A: Aim>(
         &mut self,
         path: &Path<'_>,
-        schedule: &[Cpu],
+        schedule: &Schedule,
         processors: u32,
         aim: &A,
     ) -> Result<bool, AllocError>

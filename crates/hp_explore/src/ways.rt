@@ -1,11 +1,11 @@
 //! How a call is taken back.
 ghost use Rattle.std.specs.Prelude.{◌≡◌, ◌∷◌, ◌++◌, [], IfOk, OnErr, OnOk};
 ghost use Rattle.hp_units.specs.declared.replies.Record.{Record as NewRecord};
-ghost use Rattle.hp_steps.specs.Steps.{StepsValue};
+ghost use Rattle.hp_memory.specs.Steps.{StepsValue};
 ghost use Rattle.hp_explore.specs.Paths.{IsWayOver};
 
+use hp_memory::Steps;
 use hp_schedules::Cursor;
-use hp_steps::Steps;
 use std::alloc::{AllocError, Global};
 use std::mem::swap;
 

@@ -1,19 +1,18 @@
 //! The aim of one pass in the search for a nearest schedule: an end as wanted, within a budget of
 //! changes if there is one.
-ghost use Rattle.std.specs.Prelude.{◌≡◌, ◌<◌, ◌^◌, ◌++◌, ℕ, IfErr, IfOk, List, OnOk, length, option_map, true};
+ghost use Rattle.std.specs.Prelude.{◌≡◌, ◌<◌, ◌^◌, ◌++◌, ◌∷◌, [], ℕ, IfErr, IfOk, IsTrue, List, OnOk, false, length, option_map, true};
 ghost use Rattle.hp_questions.specs.Marks.{AreMarks, asks_no_plans};
 ghost use Rattle.hp_explore.specs.FindFaults.{IsPassCause};
-ghost use Rattle.hp_explore.specs.Reaching.{IsFirstWithin};
+ghost use Rattle.hp_explore.specs.Reaching.{Exceeds, IsFirstWithin, IsWithin};
 ghost use Rattle.hp_explore.specs.Settings.{setting};
 ghost use Rattle.hp_explore.specs.Withins.{AreCausedIf, AreSpent};
 ghost use Rattle.hp_explore.specs.declared.fault.FindFault.TheVariants.{Stopped};
 
 use crate::aim::Aim;
 use crate::causes::push_all_causes;
-use crate::changes::{changes_of, exceeds};
 use crate::fault::FindFault;
 use crate::searching::first_sought;
-use crate::{Path, Watch, is_over};
+use crate::{Path, Schedule, Watch, is_over};
 use hp_machine::Machine;
 use hp_questions::{Wanted, are_met, asks_no_plans, is_lost, push_marks};
 use hp_schedules::CallScript;
@@ -40,13 +39,13 @@ impl<'a> Aim for Within<'a> {
 
     ghost becomes = { λ aim g new. (new.wanted.now ≡ aim.wanted.now) × (new.budget ≡ aim.budget) };
 
-    fn may_try(&self, _path: &Path<'_>, schedule: &[Cpu], cpu: u32) -> bool {
+    fn may_try(&self, _path: &Path<'_>, schedule: &Schedule, cpu: u32) -> bool {
         !exceeds(self.budget, schedule, Cpu(cpu))
     }
 
     /// Without a budget, no place is given up, so that the search also finds whether the history
     /// has room for each call.
-    fn admits(&self, path: &Path<'_>, _schedule: &[Cpu], processors: u32) -> bool {
+    fn admits(&self, path: &Path<'_>, _schedule: &Schedule, processors: u32) -> bool {
         path.is_played();
         if self.budget.is_some() && is_lost(self.wanted, processors, path.records()) {
             return false;
@@ -57,7 +56,7 @@ impl<'a> Aim for Within<'a> {
     fn push_marks(
         &self,
         path: &Path<'_>,
-        schedule: &[Cpu],
+        schedule: &Schedule,
         processors: u32,
         numbers: &mut Vec<u32>,
     ) -> Result<bool, AllocError> {
@@ -76,11 +75,11 @@ impl<'a> Aim for Within<'a> {
         &mut self,
         alloc: Global,
         path: &Path<'_>,
-        _schedule: &[Cpu],
+        _schedule: &Schedule,
         processors: u32,
     ) -> Result<bool, AllocError> {
         path.is_played();
-        if !is_over(alloc, path, processors)? {
+        if !is_over(path, processors) {
             return Ok(false);
         }
         let outcome = path.outcome(alloc, processors)?;
@@ -127,6 +126,18 @@ pub(crate) fn first_within<W: Watch>(
         budget,
     };
     first_sought(alloc, machine, scripts, &mut aim, watch, places)
+}
+
+/// Returns whether the schedule, with one more call by `next`, has more changes than `budget`.
+/// Returns false if there is no budget.
+fn exceeds(budget: Option<u64>, schedule: &Schedule, next: Cpu) -> bool
+    ensures more { IsTrue result → Exceeds budget (schedule.now ++ next ∷ []) }
+    ensures within { result ≡ false → IsWithin budget (schedule.now ++ next ∷ []) }
+{
+    match budget {
+        Some(budget) => schedule.changes_with(next) as u64 > budget,
+        None => false,
+    }
 }
 
 /// Appends the number of replies to each processor, and for each wanted line 1 if the records have
@@ -179,7 +190,7 @@ fn push_plan_causes(
 /// appends nothing and returns true.
 fn push_spent(
     budget: Option<u64>,
-    schedule: &[Cpu],
+    schedule: &Schedule,
     numbers: &mut Vec<u32>,
 ) -> Result<bool, AllocError>
     ensures { IfOk result (λ fit. fit ≡ true → (part : List ℕ)
@@ -188,10 +199,10 @@ fn push_spent(
     if budget.is_none() {
         return Ok(true);
     }
-    let Some(cpu) = schedule.last() else {
+    let Some(cpu) = schedule.as_slice().last() else {
         return Ok(false);
     };
-    let Ok(changes) = u32::try_from(changes_of(schedule)) else {
+    let Ok(changes) = u32::try_from(schedule.changes()) else {
         return Ok(false);
     };
     numbers.push(cpu.0)?;

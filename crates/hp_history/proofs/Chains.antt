@@ -20,17 +20,11 @@ use Rattle.hp_history.proofs.Names.{Record}
 
 pub count_more : (volumes : List Volume) (v : Volume)
     → records_in (volumes ++ v ∷ []) ≡ records_in volumes + length v.records
-count_more volumes v =
-    omega (
-      arith,
-      sum_by-append (λ (x : Volume). length x.records) volumes (v ∷ []),
-      sum_by-cons (λ (x : Volume). length x.records) v [],
-    )
+count_more volumes v = grind (arith, sum_by-append, sum_by-cons)
 
 pub state_more : (l : LayoutParts) (volumes : List Volume) (v : Volume)
     → state_after l (volumes ++ v ∷ []) ≡ value_of l (state_after l volumes) v.records
-state_more l volumes v =
-    fold-append (λ (s : Memory) (x : Volume). value_of l s x.records) (boot_memory l) volumes (v ∷ [])
+state_more l volumes v = grind (arith, fold-append)
 
 pub chain_more : (l : LayoutParts) (volumes : List Volume) (v : Volume) → IsChain l volumes
     → FollowsVolumes l volumes v → IsChain l (volumes ++ v ∷ [])
@@ -76,9 +70,7 @@ chain_legal l volumes chain =
 -- they lead to the same state, and have as many records
 pub histories_value : (l : LayoutParts) (volumes : List Volume)
     → value_of_all l (boot_memory l) (histories_of volumes) ≡ state_after l volumes
-histories_value l volumes =
-    fold-map (λ (s : Memory) (h : List Record). value_of l s h) (λ (v : Volume). v.records) (boot_memory l)
-    volumes
+histories_value l volumes = grind (arith, fold-map, Record)
 
 pub histories_count : (volumes : List Volume) → count_of_all (histories_of volumes) ≡ records_in volumes
 histories_count [] = refl

@@ -48,71 +48,71 @@ value_with before base h v =
     record { layout = v.layout; before = before; base = base; history = h; state = v.state }
 
 -- a memory's value, by its parts
-pub memory_is : (v : MemoryValue) (l : LayoutParts) (s : Memory) → v.layout ≡ l → v.state ≡ s
+pub memory_is : {l : LayoutParts} {s : Memory} (v : MemoryValue) → v.layout ≡ l → v.state ≡ s
     → v ≡ remembered l s
-memory_is v l s layout state = ap (λ (k : LayoutParts). remembered k v.state) layout ∙ ap (remembered l) state
+memory_is {l = l} v layout state = grind arith
 
 -- the count of one record more
-pub one_more : (h : List Record) (r : Record) (count : ℕ) → count ≡ length h
+pub one_more : {count : ℕ} (h : List Record) (r : Record) → count ≡ length h
     → count + 1 ≡ length (h ++ r ∷ [])
-one_more h r count is = ap (λ (n : ℕ). n + 1) is ∙ sym (length_push h r)
+one_more h r is = ap (λ (n : ℕ). n + 1) is ∙ sym (length_push h r)
 
 -- a course with no records
-pub new_course : (l : LayoutParts) (s : Memory) (before : ℕ) (v : MemoryValue) (h : List Record)
-    (es : List Entry) (ds : List Delta)
+pub new_course : {l : LayoutParts} {s : Memory} {es : List Entry} {ds : List Delta} (before : ℕ)
+    (v : MemoryValue) (h : List Record)
     → IsLayout l → IsWellPlaced l s → v ≡ remembered l s → h ≡ [] → es ≡ [] → ds ≡ [] → before < 2 ^ 64
     → IsCourse (value_with before s h v) es ds
 unfolding value_of net_of run
-new_course l s before v h es ds limits placed is none empty clear fits =
+new_course {l = l} {s = s} before v h limits placed is none empty clear fits =
     rw (none, empty, clear, is) (record {
       limits = limits;
       placed = placed;
       history = record { legal = λ n r e. absurd cc; state = refl };
-      journal = journal_none l s before placed;
+      journal = journal_none before placed;
       fits = omega arith;
     })
 
 -- a course's state is well placed
-pub state_placed : (m : CourseValue) (es : List Entry) (ds : List Delta) → IsCourse m es ds
+pub state_placed : {m : CourseValue} {es : List Entry} {ds : List Delta} → IsCourse m es ds
     → IsWellPlaced m.layout m.state
-state_placed m es ds ok = rw ok.history.state (value-placed m.layout m.base m.history ok.limits ok.placed)
+state_placed {m = m} ok = rw ok.history.state (value-placed m.layout m.base m.history ok.limits ok.placed)
 
 -- a course that was sealed
-pub sealed_course : (m : CourseValue) (es : List Entry) (ds : List Delta) (before : ℕ) (left : List Entry)
-    (kept : List Delta)
+pub sealed_course : {m : CourseValue} {es : List Entry} {ds : List Delta} {before : ℕ} {left : List Entry}
+    {kept : List Delta}
     → IsCourse m es ds → before ≡ last_serial m → left ≡ [] → kept ≡ []
     → IsCourse (started m.layout m.state before) left kept
-sealed_course m es ds before left kept ok last empty clear =
-    new_course m.layout m.state before (remembered m.layout m.state) [] left kept ok.limits
-    (state_placed m es ds ok) refl refl empty clear (omega (arith, last, ok.fits))
+sealed_course {m = m} {es = es} {ds = ds} {before = before} {left = left} {kept = kept} ok last empty clear =
+    new_course before (remembered m.layout m.state) [] ok.limits (state_placed ok) refl refl empty clear
+    (omega (arith, last, ok.fits))
 
 -- ---- going back
 
 -- the net after going back
-pub cut_net : (m : CourseValue) (cpu : ℕ) (keep : ℕ) (r : Receipt) → IsCut m cpu r.event keep r.reply
+pub cut_net : {m : CourseValue} {cpu keep : ℕ} (r : Receipt) → IsCut m cpu r.event keep r.reply
     → net_of (m.history ++ record_of cpu r ∷ []) ≡ take keep (net_of m.history)
-cut_net m cpu keep r cut = net-push m.history (record_of cpu r) ∙ cut.cut (record_of cpu r) refl refl
+cut_net {m = m} {cpu = cpu} r cut = net-push m.history (record_of cpu r) ∙ cut.cut (record_of cpu r) refl refl
 
 -- the state that it leads to is that of the longer history
-cut_state : (m : CourseValue) (cpu keep : ℕ) (r : Receipt) (s : Memory) → IsCut m cpu r.event keep r.reply
+cut_state : {m : CourseValue} {cpu keep : ℕ} {s : Memory} (r : Receipt) → IsCut m cpu r.event keep r.reply
     → s ≡ run m.layout m.base (take keep (net_of m.history))
     → s ≡ value_of m.layout m.base (m.history ++ record_of cpu r ∷ [])
 unfolding value_of
-cut_state m cpu keep r s cut is = is ∙ ap (run m.layout m.base) (sym (cut_net m cpu keep r cut))
+cut_state {m = m} {cpu = cpu} {keep = keep} r cut is = is ∙ ap (run m.layout m.base) (sym (cut_net r cut))
 
 -- what the course keeps after going back
-cut_course : (m : CourseValue) (es : List Entry) (ds : List Delta) (cpu keep : ℕ) (r : Receipt)
+cut_course : {m : CourseValue} {es : List Entry} {ds : List Delta} {cpu keep : ℕ} (r : Receipt)
     → IsCourse m es ds → is_spent m ≡ false → IsCut m cpu r.event keep r.reply → r.serial ≡ last_serial m + 1
     → IsCourse (answered_value m cpu r (value_of m.layout m.base (m.history ++ record_of cpu r ∷ [])))
     (take keep es) (take (start_of es (length ds) keep) ds)
-cut_course m es ds cpu keep r ok free cut serial =
+cut_course {m = m} {es = es} {ds = ds} {cpu = cpu} {keep = keep} r ok free cut serial =
     record {
       limits = ok.limits;
       placed = ok.placed;
       history = record { legal = follows m cpu r serial cut.answers ok.history.legal; state = refl };
       journal =
-          rw (cut_net m cpu keep r cut)
-          (journal_take m.layout m.base m.before (net_of m.history) es ds keep ok.journal cut.within);
+          rw (cut_net r cut)
+          (journal_take keep ok.journal cut.within);
       fits = omega (arith, room m free, length_push m.history (record_of cpu r));
     }
 
@@ -147,26 +147,22 @@ pub record IsBack (m : CourseValue) (es : List Entry) (ds : List Delta) (cpu kee
   pub deltas : kept ≡ take (start_of es (length ds) keep) ds
 
 -- the fields as going back leaves them
-pub cut_fields : (m : CourseValue) (es : List Entry) (ds : List Delta) (cpu keep : ℕ) (r : Receipt)
-    (v : MemoryValue) (h : List Record) (left : List Entry) (kept : List Delta)
+pub cut_fields : {m : CourseValue} {es : List Entry} {ds : List Delta} {cpu keep : ℕ} {r : Receipt}
+    {v : MemoryValue} {h : List Record} {left : List Entry} {kept : List Delta}
     → IsBack m es ds cpu keep r v h left kept
     → IsCourse (value_with m.before m.base h v) left kept
-cut_fields m es ds cpu keep r v h left kept back =
-    let shown =
-    memory_is v m.layout (value_of m.layout m.base (m.history ++ record_of cpu r ∷ [])) back.layout
-    (cut_state m cpu keep r v.state back.cut back.state) in
+cut_fields {m = m} {es = es} {ds = ds} {cpu = cpu} {keep = keep} {r = r} {v = v} back =
+    let shown = memory_is v back.layout (cut_state r back.cut back.state) in
     rw (back.history, back.entries, back.deltas, shown)
-    (cut_course m es ds cpu keep r back.course back.free back.cut back.serial)
+    (cut_course r back.course back.free back.cut back.serial)
 
 -- going back is the answer
-pub cut_answered : (m : CourseValue) (es : List Entry) (ds : List Delta) (cpu keep : ℕ) (r : Receipt)
-    (v : MemoryValue) (h : List Record) (left : List Entry) (kept : List Delta)
+pub cut_answered : {m : CourseValue} {es : List Entry} {ds : List Delta} {cpu keep : ℕ} {r : Receipt}
+    {v : MemoryValue} {h : List Record} {left : List Entry} {kept : List Delta}
     → IsBack m es ds cpu keep r v h left kept
     → IsAnswered m cpu r.event r (value_with m.before m.base h v)
-cut_answered m es ds cpu keep r v h left kept back =
-    let shown =
-    memory_is v m.layout (value_of m.layout m.base (m.history ++ record_of cpu r ∷ [])) back.layout
-    (cut_state m cpu keep r v.state back.cut back.state) in
+cut_answered {m = m} {cpu = cpu} {keep = keep} {r = r} {v = v} back =
+    let shown = memory_is v back.layout (cut_state r back.cut back.state) in
     rw (back.history, shown) (answered m cpu r back.course.history back.serial back.cut.answers)
 
 -- ---- making a step
@@ -190,66 +186,48 @@ pub record IsMade (m : CourseValue) (es : List Entry) (ds : List Delta) (cpu : �
 abbrev pub is_kept : Receipt → Bool
 is_kept r = not (is_refused r.reply) && not (is_look r.event)
 
--- the reply is that of a step in the history's state
-made_answer : (m : CourseValue) (es : List Entry) (ds : List Delta) (cpu : ℕ) (r : Receipt) (e : Entry)
-    (v : MemoryValue) (now : List Delta)
-    → IsMade m es ds cpu r e v now
-    → r.reply ≡ (step m.layout (value_of m.layout m.base m.history) (last_serial m + 1) cpu r.event).reply
-made_answer m es ds cpu r e v now made = rw (made.reply, made.serial, made.course.history.state)
+module _ {m : CourseValue} {es : List Entry} {ds : List Delta} {cpu : ℕ} {r : Receipt} {e : Entry}
+    {v : MemoryValue} {now : List Delta} (made : IsMade m es ds cpu r e v now) where
+  -- the reply is that of a step in the history's state
+  made_answer :
+      r.reply ≡ (step m.layout (value_of m.layout m.base m.history) (last_serial m + 1) cpu r.event).reply
+  made_answer = rw (made.reply, made.serial, made.course.history.state)
 
--- the reply is the one that the definitions give
-pub made_reply : (m : CourseValue) (es : List Entry) (ds : List Delta) (cpu : ℕ) (r : Receipt) (e : Entry)
-    (v : MemoryValue) (now : List Delta)
-    → IsMade m es ds cpu r e v now
-    → r.reply ≡ reply_of m.layout m.base m.before m.history cpu r.event
-made_reply m es ds cpu r e v now made = made_answer m es ds cpu r e v now made ∙ sym made.by_step.reply
+  -- the reply is the one that the definitions give
+  pub made_reply : r.reply ≡ reply_of m.layout m.base m.before m.history cpu r.event
+  made_reply = made_answer ∙ sym made.by_step.reply
 
--- the net after the step
-pub made_net : (m : CourseValue) (es : List Entry) (ds : List Delta) (cpu : ℕ) (r : Receipt) (e : Entry)
-    (v : MemoryValue) (now : List Delta)
-    → IsMade m es ds cpu r e v now
-    → net_of (m.history ++ record_of cpu r ∷ [])
-    ≡ (if is_kept r then net_of m.history ++ record_of cpu r ∷ [] else net_of m.history)
-made_net m es ds cpu r e v now made =
-    net-push m.history (record_of cpu r)
-    ∙ made.by_step.net (record_of cpu r) refl (made_answer m es ds cpu r e v now made)
+  -- the net after the step
+  pub made_net :
+      net_of (m.history ++ record_of cpu r ∷ []) ≡ (if is_kept r then net_of m.history ++ record_of cpu r ∷ []
+      else net_of m.history)
+  made_net = grind (arith, net-push, made_answer)
 
--- what is refused or only looks leaves the state
-pub made_same : (m : CourseValue) (es : List Entry) (ds : List Delta) (cpu : ℕ) (r : Receipt) (e : Entry)
-    (v : MemoryValue) (now : List Delta)
-    → IsMade m es ds cpu r e v now → is_kept r ≡ false → v.state ≡ m.state
-made_same m es ds cpu r e v now made none =
-    let law = steps m.layout m.state r.serial cpu r.event in
-    made.state ∙ (elim (and_cases (not (is_refused r.reply)) (not (is_look r.event)) none) [
-      | inl refused ↦ law.refused (ap is_refused (sym made.reply) ∙ not-false (is_refused r.reply) refused)
-      | inr looks ↦ law.looks (is_look_effect r.event (not-false (is_look r.event) looks))
-    ])
+  -- what is refused or only looks leaves the state
+  pub made_same : is_kept r ≡ false → v.state ≡ m.state
+  made_same none =
+      let law = steps m.layout m.state r.serial cpu r.event in
+      made.state ∙ (elim (and_cases (not (is_refused r.reply)) (not (is_look r.event)) none) [
+        | inl refused ↦ law.refused (ap is_refused (sym made.reply) ∙ not-false (is_refused r.reply) refused)
+        | inr looks ↦ law.looks (is_look_effect r.event (not-false (is_look r.event) looks))
+      ])
 
--- the state after a step that counts
-pub made_next : (m : CourseValue) (es : List Entry) (ds : List Delta) (cpu : ℕ) (r : Receipt) (e : Entry)
-    (v : MemoryValue) (now : List Delta)
-    → IsMade m es ds cpu r e v now
-    → v.state ≡ run m.layout m.base (net_of m.history ++ record_of cpu r ∷ [])
-unfolding value_of
-made_next m es ds cpu r e v now made =
-    rw (made.state, made.course.history.state)
-    (rw (← run-push m.layout m.base (net_of m.history) (record_of cpu r)))
+  -- the state after a step that counts
+  pub made_next : v.state ≡ run m.layout m.base (net_of m.history ++ record_of cpu r ∷ [])
+  unfolding value_of
+  made_next =
+      rw (made.state, made.course.history.state)
+      (rw (← run-push m.layout m.base (net_of m.history) (record_of cpu r)))
 
--- the state after the step, by whether it counts
-made_state : (m : CourseValue) (es : List Entry) (ds : List Delta) (cpu : ℕ) (r : Receipt) (e : Entry)
-    (v : MemoryValue) (now : List Delta)
-    → IsMade m es ds cpu r e v now → (b : Bool) → is_kept r ≡ b
-    → v.state ≡ run m.layout m.base (if b then net_of m.history ++ record_of cpu r ∷ [] else net_of m.history)
-unfolding value_of
-made_state m es ds cpu r e v now made true kept = made_next m es ds cpu r e v now made
-made_state m es ds cpu r e v now made false kept =
-    made_same m es ds cpu r e v now made kept ∙ made.course.history.state
+  -- the state after the step, by whether it counts
+  made_state : (b : Bool) → is_kept r ≡ b
+      → v.state ≡ run m.layout m.base (if b then net_of m.history ++ record_of cpu r ∷ [] else net_of
+      m.history)
+  unfolding value_of
+  made_state true kept = made_next
+  made_state false kept = made_same kept ∙ made.course.history.state
 
--- the memory after the step shows the value of the longer history
-pub made_shown : (m : CourseValue) (es : List Entry) (ds : List Delta) (cpu : ℕ) (r : Receipt) (e : Entry)
-    (v : MemoryValue) (now : List Delta)
-    → IsMade m es ds cpu r e v now
-    → v.state ≡ value_of m.layout m.base (m.history ++ record_of cpu r ∷ [])
-unfolding value_of
-made_shown m es ds cpu r e v now made =
-    rw (made_state m es ds cpu r e v now made (is_kept r) refl) (rw (← made_net m es ds cpu r e v now made))
+  -- the memory after the step shows the value of the longer history
+  pub made_shown : v.state ≡ value_of m.layout m.base (m.history ++ record_of cpu r ∷ [])
+  unfolding value_of
+  made_shown = rw (made_state (is_kept r) refl) (rw (← made_net))

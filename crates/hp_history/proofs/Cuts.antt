@@ -9,11 +9,10 @@ use Rattle.std.proofs.lemmas.Bool.{lt-ltb, le-ltb, cases_lt, both_ways}
 use Rattle.hp_units.specs.Memory.{Memory}
 use Rattle.hp_units.specs.LayoutParts.{LayoutParts}
 use Rattle.hp_units.specs.Choices.{first_some}
-use Rattle.hp_units.specs.Rows.{is_live}
-use Rattle.hp_units.specs.Step.{Answered, answer, step}
+use Rattle.hp_units.specs.Step.{answer, step}
 use Rattle.hp_tape.specs.declared.deltas.Delta.{Delta}
 use Rattle.hp_units.specs.Marks.{sole_at, tag_of}
-use Rattle.hp_units.specs.History.{Effect, goes_back, Cancels, Looks, Acts, is_refused, is_look, net_with, net_with_effect, effect_of, cut_or_add, steps_until, count_above, net_of, value_of, reply_of, cancel_reply}
+use Rattle.hp_units.specs.History.{Effect, Cancels, Looks, Acts, is_refused, is_look, net_with, net_with_effect, effect_of, steps_until, count_above, net_of, value_of, reply_of, cancel_reply}
 use Rattle.hp_laws.proofs.Lists.{get_some}
 use Rattle.hp_laws.proofs.Undo.{steps_until_at, count_above_at, sole_within}
 use Rattle.hp_laws.proofs.Net.{Numbered}
@@ -28,11 +27,11 @@ use Rattle.hp_history.proofs.Names.{Event, KernelAlloc, KernelFree, Map, Unmap, 
 use Rattle.hp_layers.proofs.Steps.{step-in, step-no_cpu}
 
 -- what is refused cuts nothing
-cut_refused : (m : CourseValue) (cpu keep : ℕ) (event : Event) (why : Refusal)
+cut_refused : {keep : ℕ} (m : CourseValue) (cpu : ℕ) (event : Event) (why : Refusal)
     → keep ≡ length (net_of m.history) → Refused why ≡ reply_of m.layout m.base m.before m.history cpu event
     → IsCut m cpu event keep (Refused why)
 unfolding net_with
-cut_refused m cpu keep event why all is = record {
+cut_refused {keep = keep} m cpu event why all is = record {
   answers = is;
   within = omega (arith, all);
   cut =
@@ -46,9 +45,10 @@ unfolding reply_of
 no_cpu m cpu s out = rw (le-ltb cpu m.layout.cpus out) refl
 
 -- such an undo cuts nothing
-pub undo_no_cpu : (m : CourseValue) (cpu keep s : ℕ) → keep ≡ length (net_of m.history) → m.layout.cpus ≤ cpu
+pub undo_no_cpu : {keep : ℕ} (m : CourseValue) (cpu s : ℕ)
+    → keep ≡ length (net_of m.history) → m.layout.cpus ≤ cpu
     → IsCut m cpu (UndoAfter s) keep (Refused NoCpu)
-undo_no_cpu m cpu keep s all out = cut_refused m cpu keep (UndoAfter s) NoCpu all (no_cpu m cpu s out)
+undo_no_cpu {keep = keep} m cpu s all out = cut_refused m cpu (UndoAfter s) NoCpu all (no_cpu m cpu s out)
 
 -- the reply to an undo of what is gone
 gone : (m : CourseValue) (cpu s : ℕ) → cpu < m.layout.cpus → is_gone m s ≡ true
@@ -57,10 +57,11 @@ unfolding reply_of
 gone m cpu s inside is = rw (lt-ltb cpu m.layout.cpus inside, is) refl
 
 -- such an undo cuts nothing
-pub undo_gone : (m : CourseValue) (cpu keep s : ℕ) → keep ≡ length (net_of m.history) → cpu < m.layout.cpus
+pub undo_gone : {keep : ℕ} (m : CourseValue) (cpu s : ℕ)
+    → keep ≡ length (net_of m.history) → cpu < m.layout.cpus
     → is_gone m s ≡ true → IsCut m cpu (UndoAfter s) keep (Refused Gone)
-undo_gone m cpu keep s all inside out =
-    cut_refused m cpu keep (UndoAfter s) Gone all (gone m cpu s inside out)
+undo_gone {keep = keep} m cpu s all inside out =
+    cut_refused m cpu (UndoAfter s) Gone all (gone m cpu s inside out)
 
 -- the place down to which the tags are above the serial
 pub record IsKeptPlace (s : ℕ) (n : List Record) (keep : ℕ) : Type 0 where
@@ -74,12 +75,12 @@ tag_of_place : (n : List Record) (tags : List Tag) (i : ℕ) (r : Record) → ta
 tag_of_place n tags i r is at = rw is (slice_get-map tag_of n i ∙ ap (option_map tag_of) at)
 
 -- a place down to which all tags are above the serial, and before which there is one that is not
-kept_place : (before last s : ℕ) (n : List Record) (tags : List Tag) (keep : ℕ) → Numbered before last n
+kept_place : {before last : ℕ} {n : List Record} {tags : List Tag} (s keep : ℕ) → Numbered before last n
     → tags ≡ map tag_of n → keep ≤ length n
     → ((i : ℕ) (t : Tag) → keep ≤ i → slice_get tags i ≡ Some t → s < t.serial)
     → ((t : Tag) → 0 < keep → slice_get tags (keep - 1) ≡ Some t → t.serial ≤ s)
     → IsKeptPlace s n keep
-kept_place before last s n tags keep ok is within above below = record {
+kept_place {n = n} {tags = tags} s keep ok is within above below = record {
   within = within;
   kept_is =
       steps_until_at s n keep within (λ i r lt e. low i r lt e)
@@ -115,18 +116,16 @@ unfolding net_with
 net_undo n r s count asked reply = rw (ap is_refused reply, asked) refl
 
 -- an undo that is not refused cuts at the place that the tags show
-pub undo_done : (m : CourseValue) (es : List Entry) (ds : List Delta) (cpu s keep count : ℕ)
+pub undo_done : {m : CourseValue} {es : List Entry} {ds : List Delta} (cpu s keep count : ℕ)
     → IsCourse m es ds → cpu < m.layout.cpus → is_gone m s ≡ false
     → keep ≤ length es → count + keep ≡ length es
     → ((i : ℕ) (t : Tag) → keep ≤ i → slice_get (tags_of m.before es) i ≡ Some t → s < t.serial)
     → ((t : Tag) → 0 < keep → slice_get (tags_of m.before es) (keep - 1) ≡ Some t → t.serial ≤ s)
     → IsCut m cpu (UndoAfter s) keep (Undone count)
-undo_done m es ds cpu s keep count ok inside there within counted above below =
-    let len : length es ≡ length (net_of m.history) =
-    entry_count m.layout m.base m.before (net_of m.history) es ds ok.journal in
+undo_done {m = m} {es = es} {ds = ds} cpu s keep count ok inside there within counted above below =
+    let len : length es ≡ length (net_of m.history) = entry_count ok.journal in
     let place =
-    kept_place m.before (last_serial m) s (net_of m.history) (tags_of m.before es) keep
-    (numbered_net m.layout m.base m.before m.history ok.history.legal) ok.journal.tagged
+    kept_place s keep (numbered_net m.layout m.base m.before m.history ok.history.legal) ok.journal.tagged
     (omega (arith, within, len)) above below in
     record {
       answers = undone m cpu s count inside there (omega (arith, place.count, counted, len));
@@ -148,10 +147,10 @@ cancel_back m cpu op keep good place = record {
 }
 
 -- the net after a record, by the effect of its event. (A rewrite by r.event would take r apart.)
-net_is : (n : List Record) (r : Record) (k : Effect) → effect_of r.event ≡ k
+net_is : {k : Effect} (n : List Record) (r : Record) → effect_of r.event ≡ k
     → net_with n r ≡ cond (is_refused r.reply) n (net_with_effect n r k)
 unfolding net_with
-net_is n r k is = ap (λ (effect : Effect). cond (is_refused r.reply) n (net_with_effect n r effect)) is
+net_is n r is = ap (λ (effect : Effect). cond (is_refused r.reply) n (net_with_effect n r effect)) is
 
 -- by whether it is refused, for an event that is no look
 kept_or_not : {A : Type 0} (b look : Bool) (n m : A) → look ≡ false
@@ -160,38 +159,37 @@ kept_or_not true look n m is = refl
 kept_or_not false look n m is = rw is refl
 
 -- and for a look
-looked_at : {A : Type 0} (b look : Bool) (n m : A) → look ≡ true
+looked_at : {A : Type 0} {look : Bool} (b : Bool) (n m : A) → look ≡ true
     → cond b n n ≡ (if not b && not look then m else n)
-looked_at true look n m is = refl
-looked_at false look n m is = rw is refl
+looked_at true n m is = refl
+looked_at false n m is = rw is refl
 
 -- the net after an event that acts
-net_act : (n : List Record) (r : Record) (event : Event) → r.event ≡ event → effect_of event ≡ Acts
+net_act : {event : Event} (n : List Record) (r : Record) → r.event ≡ event → effect_of event ≡ Acts
     → is_look event ≡ false
     → net_with n r ≡ (if not (is_refused r.reply) && not (is_look event) then n ++ r ∷ [] else n)
-net_act n r event asked effect look =
-    net_is n r Acts (ap effect_of asked ∙ effect)
+net_act {event = event} n r asked effect look =
+    net_is n r (ap effect_of asked ∙ effect)
     ∙ kept_or_not (is_refused r.reply) (is_look event) n (n ++ r ∷ []) look
 
 -- the net after a look
-net_look : (n : List Record) (r : Record) (event : Event) → r.event ≡ event → effect_of event ≡ Looks
+net_look : {event : Event} (n : List Record) (r : Record) → r.event ≡ event → effect_of event ≡ Looks
     → is_look event ≡ true
     → net_with n r ≡ (if not (is_refused r.reply) && not (is_look event) then n ++ r ∷ [] else n)
-net_look n r event asked effect look =
-    net_is n r Looks (ap effect_of asked ∙ effect)
-    ∙ looked_at (is_refused r.reply) (is_look event) n (n ++ r ∷ []) look
+net_look {event = event} n r asked effect look =
+    net_is n r (ap effect_of asked ∙ effect)
+    ∙ looked_at (is_refused r.reply) n (n ++ r ∷ []) look
 
 -- any other Cancel is a step
 net_cancel : (n : List Record) (r : Record) (op : ℕ) → r.event ≡ Cancel op
     → (is_refused r.reply ≡ true) ⊎ (sole_at op (map tag_of n) ≡ None)
     → net_with n r ≡ (if not (is_refused r.reply) && not (is_look (Cancel op)) then n ++ r ∷ [] else n)
 net_cancel n r op asked (inl bad) =
-    net_is n r (Cancels op) (ap effect_of asked)
+    net_is n r (ap effect_of asked)
     ∙ ap (λ (b : Bool). cond b n (net_with_effect n r (Cancels op))) bad
     ∙ ap (λ (b : Bool). if not b && true then n ++ r ∷ [] else n) (sym bad)
 net_cancel n r op asked (inr none) =
-    net_is n r (Cancels op) (ap effect_of asked) ∙ (ap (λ (o : Option ℕ). cond (is_refused r.reply) n
-    (cut_or_add n r o)) none ∙ kept_or_not (is_refused r.reply) false n (n ++ r ∷ []) refl)
+    rw (net_is n r (ap effect_of asked), none) (kept_or_not (is_refused r.reply) false n (n ++ r ∷ []) refl)
 
 -- the reply to a Cancel that does not go back is that of its step
 cancel_reply_same : (l : LayoutParts) (base : Memory) (before : ℕ) (h : List Record) (cpu op : ℕ)
@@ -229,7 +227,7 @@ unfolding reply_of
 act_step m cpu event effect look =
     record {
       reply = rw effect refl;
-      net = λ r asked reply. net_act (net_of m.history) r event asked effect look;
+      net = λ r asked reply. net_act (net_of m.history) r asked effect look;
     }
 
 -- a look is a step
@@ -239,7 +237,7 @@ unfolding reply_of
 look_step m cpu event effect look =
     record {
       reply = rw effect refl;
-      net = λ r asked reply. net_look (net_of m.history) r event asked effect look;
+      net = λ r asked reply. net_look (net_of m.history) r asked effect look;
     }
 
 -- an event that is no UndoAfter and no Cancel is a step
@@ -268,22 +266,19 @@ acts m cpu (SetAuto auto) undo cancel = act_step m cpu (SetAuto auto) refl refl
 pub step_needs : (m : CourseValue) (cpu : ℕ) (event : Event) → IsStep m cpu event
     → ((serial : ℕ) → event ≡ UndoAfter serial → ⊥) → NeedsNoMemory m cpu event → ⊥
 step_needs m cpu event made undo (inl asked) = undo asked.0 asked.1
-step_needs m cpu event made undo (inr back) =
-    both_ways (goes_back (reply_of m.layout m.base m.before m.history cpu event))
-    (ap goes_back made.reply
-    ∙ (steps m.layout (value_of m.layout m.base m.history) (last_serial m + 1) cpu event).onward) back
+step_needs m cpu event made undo (inr back) = grind (arith, both_ways, steps)
 
 -- the journal has an entry for each step
-pub all_steps : (m : CourseValue) (es : List Entry) (ds : List Delta) (keep : ℕ) → IsCourse m es ds
+pub all_steps : {m : CourseValue} {es : List Entry} {ds : List Delta} {keep : ℕ} → IsCourse m es ds
     → keep ≡ length es → keep ≡ length (net_of m.history)
-all_steps m es ds keep ok is = is ∙ entry_count m.layout m.base m.before (net_of m.history) es ds ok.journal
+all_steps {m = m} {es = es} {ds = ds} ok is = is ∙ entry_count ok.journal
 
 -- the serials of its entries are those of records
 pub entries_numbered : (m : CourseValue) (es : List Entry) (ds : List Delta) → IsCourse m es ds
     → AreNumbered m.before es
 entries_numbered m es ds ok j e at =
     let net = net_of m.history in
-    let count = entry_count m.layout m.base m.before net es ds ok.journal in
+    let count = entry_count ok.journal in
     let here = get_some net j (omega (arith, slice_get_within es j e at, count)) in
     let same : Some (tag_in m.before e) ≡ Some (tag_of here.0) =
     sym (slice_get-map (tag_in m.before) es j ∙ ap (option_map (tag_in m.before)) at)
@@ -307,14 +302,7 @@ by_live l s serial cpu op false = refl
 -- it is, but where the layout has its processor and its operation is live
 cancel_refuses : (l : LayoutParts) (s : Memory) (serial cpu op : ℕ)
     → is_refused (step l s serial cpu (Cancel op)).reply ≡ not (may_cancel l s cpu op)
-cancel_refuses l s serial cpu op =
-    elim (cases_lt cpu l.cpus) [
-      | inl below ↦ ap (λ (a : Answered). is_refused a.reply) (step-in l s serial cpu (Cancel op) below)
-          ∙ (by_live l s serial cpu op (is_live s.blocks op)
-          ∙ sym (ap (λ (b : Bool). not (b && is_live s.blocks op)) (lt-ltb cpu l.cpus below)))
-      | inr past ↦ ap (λ (a : Answered). is_refused a.reply) (step-no_cpu l s serial cpu (Cancel op) past)
-          ∙ sym (ap (λ (b : Bool). not (b && is_live s.blocks op)) (le-ltb cpu l.cpus past))
-    ]
+cancel_refuses l s serial cpu op = grind (arith, step-in, Cancel, by_live, lt-ltb, step-no_cpu, le-ltb)
 
 -- the step that answers a Cancel, in the present state
 here : (m : CourseValue) (cpu op : ℕ) → IsHistory m
@@ -323,11 +311,11 @@ here : (m : CourseValue) (cpu op : ℕ) → IsHistory m
 here m cpu op ok = rw (← ok.state) (cancel_refuses m.layout m.state (last_serial m + 1) cpu op)
 
 -- a Cancel that is not refused goes back where its operation is sole
-pub cancel_sole : (m : CourseValue) (cpu op : ℕ) (o : Option ℕ) → IsHistory m
+pub cancel_sole : {m : CourseValue} (cpu op : ℕ) (o : Option ℕ) → IsHistory m
     → may_cancel m.layout m.state cpu op ≡ true → o ≡ sole_at op (map tag_of (net_of m.history))
     → IfSome o (λ keep. IsCut m cpu (Cancel op) keep Restored)
-cancel_sole m cpu op None ok may place = tt
-cancel_sole m cpu op (Some keep) ok may place =
+cancel_sole cpu op None ok may place = tt
+cancel_sole {m = m} cpu op (Some keep) ok may place =
     cancel_back m cpu op keep (here m cpu op ok ∙ ap not may) (sym place)
 
 -- where its operation is not sole, a Cancel is a step
@@ -337,6 +325,6 @@ cancel_other m cpu op None place = cancel_step m cpu op (inr (sym place))
 cancel_other m cpu op (Some keep) place = tt
 
 -- and so is a Cancel that is refused
-pub cancel_refused : (m : CourseValue) (cpu op : ℕ) → IsHistory m → may_cancel m.layout m.state cpu op ≡ false
+pub cancel_refused : {m : CourseValue} (cpu op : ℕ) → IsHistory m → may_cancel m.layout m.state cpu op ≡ false
     → IsStep m cpu (Cancel op)
-cancel_refused m cpu op ok may = cancel_step m cpu op (inl (here m cpu op ok ∙ ap not may))
+cancel_refused {m = m} cpu op ok may = cancel_step m cpu op (inl (here m cpu op ok ∙ ap not may))

@@ -23,11 +23,11 @@ all_fit-left Fit one [] es v fit = tt
 all_fit-left Fit one (d ∷ ds) es v fit =
     (all_fit-left Fit one ds es v fit.0, subst (λ w. Fit d w) (undo_all-append one ds es v) fit.1)
 
-lead_back-left : {S : Type 0} (Fit : Delta → S → Type 0) (one : Delta → S → S) (ds es : List Delta)
-    (last between first : S)
+lead_back-left : {S : Type 0} {one : Delta → S → S} {es : List Delta} {last between first : S}
+    (Fit : Delta → S → Type 0) (ds : List Delta)
     → LeadBack Fit one (ds ++ es) last first → LeadBack Fit one es last between
     → LeadBack Fit one ds between first
-lead_back-left Fit one ds es last between first whole later = record {
+lead_back-left {one = one} {es = es} {last = last} Fit ds whole later = record {
   fit = subst (λ w. AllFit Fit one ds w) later.back (all_fit-left Fit one ds es last whole.fit);
   back = ap (undo_all one ds) (sym later.back) ∙ (sym (undo_all-append one ds es last) ∙ whole.back);
 }
@@ -35,31 +35,30 @@ lead_back-left Fit one ds es last between first whole later = record {
 -- ---- between states
 
 -- no deltas lead back to the same state
-pub leads-none : (l : LayoutParts) (s : Memory) → IsWellPlaced l s → LeadsBack l [] s s
-leads-none l s placed =
+pub leads-none : {l : LayoutParts} {s : Memory} → IsWellPlaced l s → LeadsBack l [] s s
+leads-none {l = l} {s = s} placed =
     record { placed = placed; numbers = tt; lead = lead_back-none Fits undo (frame_view_of l s) }
 
 -- deltas of two parts of a history
-pub leads-append : (l : LayoutParts) (ds es : List Delta) (last between first : Memory)
+pub leads-append : {l : LayoutParts} {ds es : List Delta} {last between first : Memory}
     → LeadsBack l ds between first → LeadsBack l es last between → LeadsBack l (ds ++ es) last first
-leads-append l ds es last between first earlier later = record {
-  placed = earlier.placed;
-  numbers = all-append (IsDeltaOf l) ds es earlier.numbers later.numbers;
-  lead =
-      lead_back-append Fits undo ds es (frame_view_of l last) (frame_view_of l between)
-      (frame_view_of l first)
-      earlier.lead later.lead;
-}
+leads-append {l = l} {ds = ds} {es = es} {last = last} {between = between} {first = first} earlier later =
+    record {
+      placed = earlier.placed;
+      numbers = all-append (IsDeltaOf l) ds es earlier.numbers later.numbers;
+      lead =
+          lead_back-append Fits undo ds es (frame_view_of l last) (frame_view_of l between)
+          (frame_view_of l first)
+          earlier.lead later.lead;
+    }
 
 -- the deltas of the earlier part
-pub leads-left : (l : LayoutParts) (ds es : List Delta) (last between first : Memory)
+pub leads-left : {l : LayoutParts} {es : List Delta} {last between first : Memory} (ds : List Delta)
     → LeadsBack l (ds ++ es) last first → LeadsBack l es last between → LeadsBack l ds between first
-leads-left l ds es last between first whole later = record {
+leads-left {l = l} {es = es} {last = last} {between = between} {first = first} ds whole later = record {
   placed = whole.placed;
   numbers = all-left (IsDeltaOf l) ds es whole.numbers;
-  lead =
-      lead_back-left Fits undo ds es (frame_view_of l last) (frame_view_of l between) (frame_view_of l first)
-      whole.lead later.lead;
+  lead = lead_back-left Fits ds whole.lead later.lead;
 }
 
 -- ---- parts of a tape
@@ -74,6 +73,4 @@ past-split a b ds le within =
 
 -- how many stand between two places
 pub between-length : (a b : ℕ) (ds : List Delta) → a ≤ b → b ≤ length ds → length (slice_range ds a b) ≡ b - a
-between-length a b ds le within =
-    let rest : b - a ≤ length (drop a ds) = omega (arith, length-drop a ds) in
-    length-take-le (b - a) (drop a ds) rest
+between-length a b ds le within = grind (arith, length-drop, length-take-le)

@@ -9,7 +9,7 @@ use Rattle.hp_units.specs.History.{net_of, run, value_of}
 use Rattle.hp_units.specs.declared.replies.Receipt.{Receipt}
 use Rattle.hp_tape.specs.Bounds.{delta_bound}
 use Rattle.hp_tape.specs.declared.deltas.Delta.{Delta}
-use Rattle.hp_tape.specs.Deltas.{FrameView, frame_view_of}
+use Rattle.hp_tape.specs.Deltas.{FrameView}
 use Rattle.hp_layers.specs.Layers.{AreNoted}
 use Rattle.hp_memory.specs.Memory.{LeadsBack, MemoryValue}
 use Rattle.hp_laws.proofs.EventSteps.{run-placed}
@@ -17,107 +17,80 @@ use Rattle.hp_history.specs.declared.entries.Entry.{Entry}
 use Rattle.hp_history.specs.Course.{CourseValue, IsAnswered, last_serial, record_of}
 use Rattle.hp_history.specs.Entries.{tag_in}
 use Rattle.hp_history.specs.Kept.{IsCourse, IsJournal}
-use Rattle.hp_history.proofs.Names.{Event, Mark, Record, Tag}
+use Rattle.hp_history.proofs.Names.{Event, Mark, Record}
 use Rattle.hp_history.proofs.Journals.{IsNext, journal_push}
 use Rattle.hp_history.proofs.Courses.{room, follows, answered_value, value_with, memory_is, state_placed, answered, IsMade, is_kept, made_reply, made_net, made_same, made_next, made_shown}
 
--- a tag of its parts
-abbrev tag_with : (serial : ℕ) → Mark → Tag
-tag_with serial mark = record { serial = serial; mark = mark }
-
 -- ---- what the step noted
 
-noted_before : (l : LayoutParts) (most : ℕ) (was now : List Delta) (later earlier : FrameView) (mark : ℕ)
+noted_before : {l : LayoutParts} {most : ℕ} {was now : List Delta} {later earlier : FrameView} {mark : ℕ}
     (noted : AreNoted l most was now later earlier)
     → mark ≡ length was → take mark now ≡ was
-noted_before l most was now later earlier mark noted is =
-    ap (λ (xs : List Delta). take mark xs) noted.after ∙ take_at was noted.deltas mark (sym is)
+noted_before {was = was} {mark = mark} noted is = grind (arith, take_at)
 
--- it leads back to the state before
-made_leads : (m : CourseValue) (es : List Entry) (ds : List Delta) (cpu : ℕ) (r : Receipt) (e : Entry)
-    (v : MemoryValue) (now : List Delta) (made : IsMade m es ds cpu r e v now)
-    → LeadsBack m.layout made.noted.deltas v.state m.state
-made_leads m es ds cpu r e v now made =
-    record { placed = state_placed m es ds made.course; numbers = made.noted.numbers; lead = made.noted.lead }
+module _ {m : CourseValue} {es : List Entry} {ds : List Delta} {cpu : ℕ} {r : Receipt} {e : Entry}
+    {v : MemoryValue} {now : List Delta} (made : IsMade m es ds cpu r e v now) where
+  -- it leads back to the state before
+  made_leads : LeadsBack m.layout made.noted.deltas v.state m.state
+  made_leads =
+      record { placed = state_placed made.course; numbers = made.noted.numbers; lead = made.noted.lead }
 
--- so what is no step can be taken off the tape
-pub made_off : (m : CourseValue) (es : List Entry) (ds : List Delta) (cpu : ℕ) (r : Receipt) (e : Entry)
-    (v : MemoryValue) (now : List Delta)
-    → IsMade m es ds cpu r e v now → is_kept r ≡ false
-    → LeadsBack v.layout (drop e.start now) v.state v.state
-made_off m es ds cpu r e v now made none =
-    let past =
-    ap (λ (xs : List Delta). drop e.start xs) made.noted.after ∙ drop_at ds made.noted.deltas e.start
-    (sym made.start) in
-    rw made.layout (subst (λ (xs : List Delta). LeadsBack m.layout xs v.state v.state) (sym past)
-    (subst (λ (s : Memory). LeadsBack m.layout made.noted.deltas v.state s)
-    (sym (made_same m es ds cpu r e v now made none)) (made_leads m es ds cpu r e v now made)))
+  -- so what is no step can be taken off the tape
+  pub made_off : is_kept r ≡ false → LeadsBack v.layout (drop e.start now) v.state v.state
+  made_off none =
+      let past =
+      ap (λ (xs : List Delta). drop e.start xs) made.noted.after ∙ drop_at ds made.noted.deltas e.start
+      (sym made.start) in
+      rw made.layout (subst (λ (xs : List Delta). LeadsBack m.layout xs v.state v.state) (sym past)
+      (subst (λ (s : Memory). LeadsBack m.layout made.noted.deltas v.state s)
+      (sym (made_same made none)) made_leads))
 
--- the tape is long enough
-pub made_start : (m : CourseValue) (es : List Entry) (ds : List Delta) (cpu : ℕ) (r : Receipt) (e : Entry)
-    (v : MemoryValue) (now : List Delta)
-    → IsMade m es ds cpu r e v now → e.start ≤ length now
-made_start m es ds cpu r e v now made =
-    omega (
-      arith,
-      made.start,
-      ap (λ (xs : List Delta). length xs) made.noted.after,
-      length-append ds made.noted.deltas,
-    )
+  -- the tape is long enough
+  pub made_start : e.start ≤ length now
+  made_start = grind (arith, length-append)
 
--- the step as the next one of the journal
-made_entry : (m : CourseValue) (es : List Entry) (ds : List Delta) (cpu : ℕ) (r : Receipt) (e : Entry)
-    (v : MemoryValue) (now : List Delta) (made : IsMade m es ds cpu r e v now)
-    → IsNext m.layout m.base m.before (net_of m.history) ds (record_of cpu r) e made.noted.deltas
-unfolding value_of
-made_entry m es ds cpu r e v now made =
-    let l = m.layout in
-    let net = net_of m.history in
-    let was : m.state ≡ run l m.base net = made.course.history.state in
-    record {
-      tag = made.tag;
-      start = made.start;
-      few = subst (λ (s : Memory). length made.noted.deltas ≤ delta_bound l s r.event) was made.noted.few;
-      leads = rw (← made_next m es ds cpu r e v now made, ← was) (made_leads m es ds cpu r e v now made);
-      placed = run-placed l m.base (net ++ record_of cpu r ∷ []) made.course.limits made.course.placed;
-    }
+  -- the step as the next one of the journal
+  made_entry : IsNext m.layout m.base m.before (net_of m.history) ds (record_of cpu r) e made.noted.deltas
+  unfolding value_of
+  made_entry =
+      let l = m.layout in
+      let net = net_of m.history in
+      let was : m.state ≡ run l m.base net = made.course.history.state in
+      record {
+        tag = made.tag;
+        start = made.start;
+        few = subst (λ (s : Memory). length made.noted.deltas ≤ delta_bound l s r.event) was made.noted.few;
+        leads = rw (← made_next made, ← was) made_leads;
+        placed = run-placed l m.base (net ++ record_of cpu r ∷ []) made.course.limits made.course.placed;
+      }
 
--- the journal after the step, by whether it counts
-made_journal : (m : CourseValue) (es : List Entry) (ds : List Delta) (cpu : ℕ) (r : Receipt) (e : Entry)
-    (v : MemoryValue) (now : List Delta)
-    → IsMade m es ds cpu r e v now → (b : Bool)
-    → IsJournal m.layout m.base m.before (if b then net_of m.history ++ record_of cpu r ∷ [] else net_of
-    m.history) (if b then es ++ e ∷ [] else es) (if b then now else take e.start now)
-made_journal m es ds cpu r e v now made true =
-    let net = net_of m.history in
-    rw made.noted.after (journal_push m.layout m.base m.before net es ds (record_of cpu r) e made.noted.deltas
-    made.course.journal (made_entry m es ds cpu r e v now made))
-made_journal m es ds cpu r e v now made false =
-    let earlier =
-    noted_before m.layout (delta_bound m.layout m.state r.event) ds now (frame_view_of m.layout v.state)
-    (frame_view_of m.layout m.state) e.start made.noted made.start in
-    rw earlier made.course.journal
+  -- the journal after the step, by whether it counts
+  made_journal : (b : Bool)
+      → IsJournal m.layout m.base m.before (if b then net_of m.history ++ record_of cpu r ∷ [] else net_of
+      m.history) (if b then es ++ e ∷ [] else es) (if b then now else take e.start now)
+  made_journal true =
+      let net = net_of m.history in
+      rw made.noted.after (journal_push made.course.journal made_entry)
+  made_journal false =
+      let earlier = noted_before made.noted made.start in
+      rw earlier made.course.journal
 
--- what the course keeps after the step
-made_course : (m : CourseValue) (es : List Entry) (ds : List Delta) (cpu : ℕ) (r : Receipt) (e : Entry)
-    (v : MemoryValue) (now : List Delta)
-    → IsMade m es ds cpu r e v now
-    → IsCourse (answered_value m cpu r (value_of m.layout m.base (m.history ++ record_of cpu r ∷ [])))
-    (if is_kept r then es ++ e ∷ [] else es) (if is_kept r then now else take e.start now)
-made_course m es ds cpu r e v now made =
-    record {
-      limits = made.course.limits;
-      placed = made.course.placed;
-      history =
-          record {
-            legal =
-                follows m cpu r made.serial (made_reply m es ds cpu r e v now made) made.course.history.legal;
-            state = refl;
-          };
-      journal =
-          rw (made_net m es ds cpu r e v now made) (made_journal m es ds cpu r e v now made (is_kept r));
-      fits = omega (arith, room m made.free, length_push m.history (record_of cpu r));
-    }
+  -- what the course keeps after the step
+  made_course :
+      IsCourse (answered_value m cpu r (value_of m.layout m.base (m.history ++ record_of cpu r ∷ [])))
+      (if is_kept r then es ++ e ∷ [] else es) (if is_kept r then now else take e.start now)
+  made_course =
+      record {
+        limits = made.course.limits;
+        placed = made.course.placed;
+        history =
+            record {
+              legal = follows m cpu r made.serial (made_reply made) made.course.history.legal;
+              state = refl;
+            };
+        journal = rw (made_net made) (made_journal (is_kept r));
+        fits = omega (arith, room m made.free, length_push m.history (record_of cpu r));
+      }
 
 -- what the fields are once the entry is kept
 pub record IsLeft (m : CourseValue) (es : List Entry) (cpu : ℕ) (r : Receipt) (e : Entry) (v : MemoryValue)
@@ -131,35 +104,33 @@ pub record IsLeft (m : CourseValue) (es : List Entry) (cpu : ℕ) (r : Receipt) 
   pub deltas : kept ≡ (if b then now else take e.start now)
 
 -- the fields as the step leaves them
-pub made_fields : (m : CourseValue) (es : List Entry) (ds : List Delta) (cpu : ℕ) (r : Receipt) (e : Entry)
-    (v : MemoryValue) (now : List Delta) (b : Bool) (last : MemoryValue) (h : List Record) (left : List Entry)
-    (kept : List Delta)
+pub made_fields : {m : CourseValue} {es : List Entry} {ds : List Delta} {cpu : ℕ} {r : Receipt} {e : Entry}
+    {v : MemoryValue} {now : List Delta} {b : Bool} {last : MemoryValue} {h : List Record} {left : List Entry}
+    {kept : List Delta}
     → IsMade m es ds cpu r e v now → IsLeft m es cpu r e v now b last h left kept
     → IsCourse (value_with m.before m.base h last) left kept
-made_fields m es ds cpu r e v now b last h left kept made fields =
+made_fields {m = m} {es = es} {ds = ds} {cpu = cpu} {r = r} {e = e} {v = v} {now = now} {last = last}
+    {left = left} {kept = kept} made fields =
     let entries : left ≡ (if is_kept r then es ++ e ∷ [] else es) = rw (fields.entries, fields.steps) in
     let deltas : kept ≡ (if is_kept r then now else take e.start now) = rw (fields.deltas, fields.steps) in
-    let shown =
-    memory_is last m.layout (value_of m.layout m.base (m.history ++ record_of cpu r ∷ []))
-    (fields.layout ∙ made.layout) (fields.state ∙ made_shown m es ds cpu r e v now made) in
-    rw (fields.history, entries, deltas, shown) (made_course m es ds cpu r e v now made)
+    let shown = memory_is last (fields.layout ∙ made.layout) (fields.state ∙ made_shown made) in
+    rw (fields.history, entries, deltas, shown) (made_course made)
 
 -- the step is the answer
-pub made_answered : (m : CourseValue) (es : List Entry) (ds : List Delta) (cpu : ℕ) (r : Receipt) (e : Entry)
-    (v : MemoryValue) (now : List Delta) (b : Bool) (last : MemoryValue) (h : List Record) (left : List Entry)
-    (kept : List Delta)
+pub made_answered : {m : CourseValue} {es : List Entry} {ds : List Delta} {cpu : ℕ} {r : Receipt} {e : Entry}
+    {v : MemoryValue} {now : List Delta} {b : Bool} {last : MemoryValue} {h : List Record} {left : List Entry}
+    {kept : List Delta}
     → IsMade m es ds cpu r e v now → IsLeft m es cpu r e v now b last h left kept
     → IsAnswered m cpu r.event r (value_with m.before m.base h last)
-made_answered m es ds cpu r e v now b last h left kept made fields =
-    let shown =
-    memory_is last m.layout (value_of m.layout m.base (m.history ++ record_of cpu r ∷ []))
-    (fields.layout ∙ made.layout) (fields.state ∙ made_shown m es ds cpu r e v now made) in
+made_answered {m = m} {es = es} {ds = ds} {cpu = cpu} {r = r} {e = e} {v = v} {now = now} {last = last} made
+    fields =
+    let shown = memory_is last (fields.layout ∙ made.layout) (fields.state ∙ made_shown made) in
     rw (fields.history, shown)
-    (answered m cpu r made.course.history made.serial (made_reply m es ds cpu r e v now made))
+    (answered m cpu r made.course.history made.serial (made_reply made))
 
 -- the tag of the entry that is made for the next record
-pub tag-next : (m : CourseValue) (count serial : ℕ) (event : Event) (mark : Mark) (e : Entry)
+pub tag-next : {count serial : ℕ} {mark : Mark} (m : CourseValue) (event : Event) (e : Entry)
     → serial ≡ last_serial m + 1 → count ≡ length m.history → mark ≡ mark_of event
     → tag_in m.before e ≡ record { serial = m.before + count + 1; mark = mark }
     → tag_in m.before e ≡ record { serial = serial; mark = mark_of event }
-tag-next m count serial event mark e is counted marked tag = rw (tag, counted, ← is, marked)
+tag-next m event e is counted marked tag = rw (tag, counted, ← is, marked)

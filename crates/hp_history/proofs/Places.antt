@@ -60,14 +60,10 @@ pub sole_broken : (op : ℕ) (ts : List Tag) (k : ℕ) (t : Tag) → 0 < k → s
     → is_opening t.mark ≡ false → is_work_of op t.mark ≡ false
     → ((i : ℕ) (u : Tag) → k ≤ i → slice_get ts i ≡ Some u → is_work_of op u.mark ≡ true)
     → None ≡ sole_at op ts
-sole_broken op ts k t pos here opens work works =
-    sole_missed op ts k t pos here (ap (λ (b : Bool). b && (t.serial == op)) opens) work works
+sole_broken op ts k t pos here opens work works = sole_missed op ts k t pos here (rw opens) work works
 
 -- nothing but work of the operation
 pub sole_empty : (op : ℕ) (ts : List Tag)
     → ((i : ℕ) (u : Tag) → 0 ≤ i → slice_get ts i ≡ Some u → is_work_of op u.mark ≡ true)
     → None ≡ sole_at op ts
-sole_empty op ts works =
-    sym (sole_none op ts (λ j is. no_opening_works op is.tag.mark
-    (and_parts (is_opening is.tag.mark) (is.tag.serial == op) is.opens).0
-    (works j is.tag (omega arith) is.here)))
+sole_empty op ts works = grind (arith, sole_none, no_opening_works, and_parts)

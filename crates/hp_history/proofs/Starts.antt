@@ -13,9 +13,9 @@ pub start-past : (es : List Entry) (end j : ℕ) → length es ≤ j → start_o
 start-past es end j past = rw (slice_get_past es j past)
 
 -- one step more, which begins at the end
-pub start-push : (es : List Entry) (e : Entry) (end more j : ℕ) → e.start ≡ end → j ≤ length es
+pub start-push : {end : ℕ} (es : List Entry) (e : Entry) (more j : ℕ) → e.start ≡ end → j ≤ length es
     → start_of (es ++ e ∷ []) more j ≡ start_of es end j
-start-push es e end more j is le =
+start-push {end = end} es e more j is le =
     elim (cases_lt j (length es)) [
       | inl less ↦ rw (let here = get_some es j less in ap
           (λ (o : Option Entry). option_map_or (λ (x : Entry). x.start) o more) (get_left es (e ∷ []) j less

@@ -88,15 +88,14 @@ undone m new es ds keep ok within net state = record {
         start-past es (length ds) (keep + more) (omega (
           arith,
           within,
-          entry_count m.layout m.base m.before (net_of m.history) es ds ok.journal,
+          entry_count ok.journal,
         ))
 
     all : joined entries ≡ drop (start keep) ds
     all =
         sym (append-nil (joined entries))
-        ∙ (ap (λ (xs : List Delta). joined entries ++ xs)
-        (sym (ap (λ (n : ℕ). drop n ds) end ∙ drop_all (length ds) ds (omega arith)))
-        ∙ entries-joined start ds keep more ok.journal.rising)
+        ∙ (rw (← ap (λ (n : ℕ). drop n ds) end ∙ drop_all (length ds) ds (omega arith)) (entries-joined start
+        ds keep more ok.journal.rising))
 
     each : (j : ℕ) (deltas : List Delta) → slice_get entries j ≡ Some deltas → IsEntry m (keep + j) deltas
     each j deltas here =
@@ -104,18 +103,17 @@ undone m new es ds keep ok within net state = record {
         rw found.1 (entry_shown m es ds (keep + j) ok (omega (arith, found.0, within)))
 
 -- going back undoes the steps that it does not keep
-pub cut_undone : (m : CourseValue) (es : List Entry) (ds : List Delta) (cpu keep : ℕ) (r : Receipt)
-    (v : MemoryValue) (h : List Record) (left : List Entry) (kept : List Delta)
+pub cut_undone : {m : CourseValue} {es : List Entry} {ds : List Delta} {cpu keep : ℕ} {r : Receipt}
+    {v : MemoryValue} {h : List Record} {left : List Entry} {kept : List Delta}
     → IsBack m es ds cpu keep r v h left kept → IsUndone m (value_with m.before m.base h v)
-cut_undone m es ds cpu keep r v h left kept back =
+cut_undone {m = m} {es = es} {ds = ds} {cpu = cpu} {keep = keep} {r = r} {v = v} {h = h} back =
     undone m (value_with m.before m.base h v) es ds keep back.course back.cut.within
-    (ap net_of back.history ∙ cut_net m cpu keep r back.cut) back.state
+    (ap net_of back.history ∙ cut_net r back.cut) back.state
 
 -- the answer of a step does not say that an earlier state is back
 pub acted : {E : Type 0} (m new : CourseValue) (cpu : ℕ) (event : Event) (result : Result (ℕ × Reply) E)
     → (NeedsNoMemory m cpu event → ⊥)
     → IfOk result (λ answer. IsAnswered m cpu event (receipt_for event answer) new)
     → IfOk result (λ answer. goes_back answer.1 ≡ true → IsUndone m new)
-acted m new cpu event (Ok answer) needs called =
-    λ back. absurd (needs (inr (ap goes_back (sym called.reply) ∙ back)))
+acted m new cpu event (Ok answer) needs called = λ back. absurd (needs (inr (rw (← called.reply, back))))
 acted m new cpu event (Err fault) needs called = tt

@@ -4,7 +4,7 @@
 //! and a small entry per step; it keeps no records. A `Course` is a journal with its base state and
 //! the records since. An undo and a restoring Cancel take deltas off the end of the tape; every
 //! other event is one step of the memory. A seal hands out a `Volume`. hp_memory owns what a step
-//! does, hp_replays decides whether records are a legal history.
+//! does, hp_machine decides whether records are a legal history.
 //!
 //! Read specs/Course first (what a caller sees), then specs/Kept (what every journal keeps).
 #![tactic(auto)]

@@ -1,19 +1,18 @@
 -- How many interleavings the scripts of a check have.
-use Rattle.std.proofs.Common.{◌≡◌, ◌==◌, ◌-◌, ◌^◌, ℕ, Bool, true, false, List, [], Result, Ok, Err, IfOk, OnOk, refl, sym, subst}
+use Rattle.std.proofs.Common.{◌≡◌, ◌==◌, ◌-◌, ◌^◌, ℕ, Bool, true, false, List, [], Result, Ok, Err, IfOk, OnOk, refl}
 use Rattle.std.proofs.lemmas.Bool.{eq-eqb, eqb-true}
-use Rattle.hp_starts.specs.Counting.{IsCountTold}
+use Rattle.hp_scripts.specs.Counting.{IsCountTold}
 use Rattle.hp_scenario.specs.Gives.{Fails}
-use Rattle.hp_names.specs.Named.{NamedValue, named_in}
+use Rattle.hp_scripts.specs.Named.{NamedValue, named_in}
 use Rattle.hp_scenario.specs.declared.fault.ScenarioFault.{ScenarioFault}
-use Rattle.hp_scenario.specs.declared.fault.ScenarioFault.TheVariants.{NotJson, BadShape, Layout, BadLine, NotForRun, OutOfMemory}
+use Rattle.hp_scenario.specs.declared.fault.ScenarioFault.TheVariants.{OutOfMemory}
 use Rattle.hp_scenario.specs.declared.lines.Line.{Line}
 use Rattle.hp_lab_shell.specs.Checks.{IsCountIn, IsCountOf, usual_limit}
 
 -- all lines are the setup
 pub none_asked : (setup : ℕ) (input text : List ℕ) → setup ≡ 2 ^ 64 - 1 → text ≡ []
     → IsCountOf (setup == 2 ^ 64 - 1) setup input text
-none_asked setup input text all none =
-    subst (λ (b : Bool). IsCountOf b setup input text) (sym (eq-eqb setup (2 ^ 64 - 1) all)) none
+none_asked setup input text all none = rw (eq-eqb setup (2 ^ 64 - 1) all) none
 
 -- or not
 pub some_asked : (setup : ℕ) (input text : List ℕ) → (setup ≡ 2 ^ 64 - 1 → ⊥)
@@ -29,27 +28,13 @@ pub read_count : (setup cpus : ℕ) (input text : List ℕ) (s : NamedValue) (li
     → named_in input ≡ Ok s → cpus ≡ s.scenario.layout.cpus → lines ≡ s.scenario.lines
     → IsCountTold cpus setup lines usual_limit text → IsCountIn setup (named_in input) text
 read_count setup cpus input text s lines read are is h =
-    subst (λ (r : Result NamedValue ScenarioFault). IsCountIn setup r text) (sym read)
-    (subst (λ (n : ℕ). IsCountTold n setup s.scenario.lines usual_limit text) are
-    (subst (λ (ls : List Line). IsCountTold cpus setup ls usual_limit text) is h))
+    rw (read, ← are, ← is) h
 
 -- or they are none
 pub unread_count : (setup : ℕ) (input text : List ℕ) (fault : ScenarioFault) → Fails fault (named_in input)
     → (fault ≡ OutOfMemory → ⊥) → text ≡ [] → IsCountIn setup (named_in input) text
-unread_count setup input text fault fails some none = by_fault fault fails some
-  where
-    unread : (why : ScenarioFault) → named_in input ≡ Err why → IsCountIn setup (named_in input) text
-    unread why read =
-        subst (λ (r : Result NamedValue ScenarioFault). IsCountIn setup r text) (sym read) none
-
-    by_fault : (f : ScenarioFault) → Fails f (named_in input) → (f ≡ OutOfMemory → ⊥)
-        → IsCountIn setup (named_in input) text
-    by_fault NotJson read some = unread NotJson read
-    by_fault BadShape read some = unread BadShape read
-    by_fault (Layout why) read some = unread (Layout why) read
-    by_fault (BadLine line) read some = unread (BadLine line) read
-    by_fault (NotForRun line) read some = unread (NotForRun line) read
-    by_fault OutOfMemory read some = absurd (some refl)
+unread_count setup input text OutOfMemory fails some none = absurd (some refl)
+unread_count setup input text fault fails some none = rw fails none
 
 pub counted_none : {T E : Type 0} (bytes : T → List ℕ) (result : Result T E) (setup : ℕ) (input : List ℕ)
     (fault : ScenarioFault)

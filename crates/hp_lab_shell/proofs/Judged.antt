@@ -4,7 +4,7 @@ use Rattle.std.proofs.lemmas.Bool.{eqb-true}
 use Rattle.hp_check.specs.Checking.{Agrees}
 use Rattle.hp_check.specs.Findings.{is_fault}
 use Rattle.hp_check.specs.declared.finding.Finding.{Finding}
-use Rattle.hp_names.specs.Named.{NamedValue, named_in}
+use Rattle.hp_scripts.specs.Named.{NamedValue, named_in}
 use Rattle.hp_scenario.specs.declared.fault.ScenarioFault.{ScenarioFault}
 use Rattle.hp_lab_shell.specs.Checks.{status_of}
 

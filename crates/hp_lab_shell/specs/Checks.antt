@@ -1,8 +1,8 @@
 -- What a check writes, and its exit status.
 use Rattle.std.specs.Prelude.{◌≡◌, ℕ, ◌-◌, ◌^◌, ◌==◌, Bool, true, false, List, [], ◌++◌, Result, Ok, Err}
-use Rattle.hp_names.specs.Named.{NamedValue, named_in}
+use Rattle.hp_scripts.specs.Named.{NamedValue, named_in}
 use Rattle.hp_scenario.specs.declared.fault.ScenarioFault.{ScenarioFault}
-use Rattle.hp_starts.specs.Counting.{IsCountTold}
+use Rattle.hp_scripts.specs.Counting.{IsCountTold}
 
 -- the most interleavings that are counted
 abbrev pub usual_limit : ℕ

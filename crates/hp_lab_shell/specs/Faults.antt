@@ -1,7 +1,7 @@
 -- Why a scenario is not shown.
 use Rattle.std.specs.Prelude.{◌≡◌, ℕ, List}
 use Rattle.hp_scenario.specs.Gives.{Fails}
-use Rattle.hp_names.specs.Named.{named_in}
+use Rattle.hp_scripts.specs.Named.{named_in}
 use Rattle.hp_search.specs.declared.lab_fault.LabFault.TheVariants.{OutOfMemory}
 use Rattle.hp_search.specs.declared.program_fault.LabProgramFault.{LabProgramFault}
 use Rattle.hp_search.specs.declared.program_fault.LabProgramFault.TheVariants.{Lab, Scenario}

@@ -1,8 +1,8 @@
 -- What a command needs of a scenario, and what is worth a warning.
 use Rattle.std.specs.Prelude.{◌≡◌, ℕ, ◌-◌, ◌^◌, ◌<◌, ◌==◌, Bool, true, List, [], Option, Some, None, Result, nat_le, if◌then◌else◌}
-use Rattle.hp_names.specs.Named.{NamedValue, named_in}
+use Rattle.hp_scripts.specs.Named.{NamedValue, named_in}
 use Rattle.hp_scenario.specs.declared.fault.ScenarioFault.{ScenarioFault}
-use Rattle.hp_starts.specs.declared.unbegun.Unbegun.{Unbegun}
+use Rattle.hp_scripts.specs.declared.unbegun.Unbegun.{Unbegun}
 use Rattle.hp_trace.specs.declared.view.View.{View}
 use Rattle.hp_lab_shell.specs.Scripts.{count_of, unbegun_in}
 use Rattle.hp_search.specs.declared.lab_fault.LabFault.TheVariants.{OutOfMemory}

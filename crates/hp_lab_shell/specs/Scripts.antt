@@ -1,9 +1,9 @@
 -- What is read from a scenario without a search.
 use Rattle.std.specs.Prelude.{ℕ, List, [], length, Option, Some, None, Result, Ok, Err}
-use Rattle.hp_names.specs.Named.{NamedValue}
+use Rattle.hp_scripts.specs.Named.{NamedValue}
 use Rattle.hp_scenario.specs.declared.fault.ScenarioFault.{ScenarioFault}
-use Rattle.hp_starts.specs.Unbegun.{unbegun_lines}
-use Rattle.hp_starts.specs.declared.unbegun.Unbegun.{Unbegun}
+use Rattle.hp_scripts.specs.Unbegun.{unbegun_lines}
+use Rattle.hp_scripts.specs.declared.unbegun.Unbegun.{Unbegun}
 
 -- per processor, the first script line that works on operation 0 although the processor has begun none
 abbrev pub unbegun_in : (setup : ℕ) → Result NamedValue ScenarioFault → List Unbegun

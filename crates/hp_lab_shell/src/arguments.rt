@@ -2,6 +2,7 @@
 
 use clap::{Arg, ArgAction, value_parser};
 use std::alloc::{AllocError, Global};
+use std::slice;
 
 /// The option that searches for an end.
 pub(crate) const FIND: &str = "find";
@@ -63,26 +64,40 @@ pub(crate) const SVG: &str = "svg";
 /// The argument that names files.
 pub(crate) const FILE: &str = "FILE";
 
-/// The values that an argument takes.
+/// How an argument is given, and which values it takes.
 pub(crate) enum Takes {
-    /// Nothing: it is a flag.
+    /// An option without a value: a flag.
     Nothing,
-    /// A number.
+    /// An option with a number.
     Number,
-    /// A part's number and the number of parts.
-    Part,
-    /// The part of an outcome by which ends are grouped.
-    Group,
-    /// A range of memory blocks.
-    Blocks,
-    /// A kind of fault; may be given several times.
-    Kinds,
-    /// A text; may be given several times.
-    Texts,
+    /// An option with a text, which help calls by this name.
+    Text(&'static str),
+    /// The same, which may be given several times.
+    Texts(&'static str),
     /// A file name, without an option before it.
     File,
     /// Any number of file names.
     Files,
+}
+
+impl Takes {
+    /// Returns what help calls the value of an option; empty if it takes none.
+    fn value_names(&'static self) -> &'static [&'static str] {
+        match self {
+            Takes::Number => &["N"],
+            Takes::Text(name) | Takes::Texts(name) => slice::from_ref(name),
+            _ => &[],
+        }
+    }
+
+    /// Returns what a use of an option does.
+    fn action(&self) -> ArgAction {
+        match self {
+            Takes::Nothing => ArgAction::SetTrue,
+            Takes::Texts(_) => ArgAction::Append,
+            _ => ArgAction::Set,
+        }
+    }
 }
 
 /// An argument of a subcommand.
@@ -103,31 +118,33 @@ pub(crate) const SCENARIO_FILE: Argument = Argument {
 };
 
 /// Returns an argument in clap's form.
-pub(crate) fn arg_of<'a>(alloc: Global, argument: &Argument) -> Result<Arg<'a>, AllocError> {
+pub(crate) fn arg_of<'a>(
+    alloc: Global,
+    argument: &'static Argument,
+) -> Result<Arg<'a>, AllocError> {
     let arg = Arg::new(alloc, argument.name).help(argument.help);
     taking(arg, argument).conflicts_with_all(argument.against)
 }
 
-/// Sets an argument's name and its values.
-fn taking<'a>(arg: Arg<'a>, argument: &Argument) -> Arg<'a> {
+/// Sets how an argument is given, and which values it takes.
+fn taking<'a>(arg: Arg<'a>, argument: &'static Argument) -> Arg<'a> {
     match argument.takes {
-        Takes::Nothing => arg.long(argument.name).action(ArgAction::SetTrue),
-        Takes::Number => arg
-            .long(argument.name)
-            .value_name("N")
-            .value_parser(value_parser!(u64)),
-        Takes::Part => arg.long(argument.name).value_name("I/N"),
-        Takes::Group => arg.long(argument.name).value_name("PART"),
-        Takes::Blocks => arg.long(argument.name).value_name("A..B"),
-        Takes::Kinds => arg
-            .long(argument.name)
-            .value_name("KIND")
-            .action(ArgAction::Append),
-        Takes::Texts => arg
-            .long(argument.name)
-            .value_name("TEXT")
-            .action(ArgAction::Append),
         Takes::File => arg,
         Takes::Files => arg.num_args(0..),
+        _ => option(arg, argument),
+    }
+}
+
+/// Makes an argument an option.
+fn option<'a>(arg: Arg<'a>, argument: &'static Argument) -> Arg<'a> {
+    let takes = &argument.takes;
+    let arg = arg
+        .long(argument.name)
+        .value_names(takes.value_names())
+        .action(takes.action());
+    if matches!(takes, Takes::Number) {
+        arg.value_parser(value_parser!(u64))
+    } else {
+        arg
     }
 }

@@ -1,16 +1,15 @@
 //! What is wrong with a scenario, and how many interleavings it has.
 ghost use Rattle.std.specs.Prelude.{◌≡◌, ◌≢◌, ◌-◌, ◌^◌, ◌==◌, [], IfErr, IfOk, OnOk, if◌then◌else◌, string_bytes};
-ghost use Rattle.hp_names.specs.Named.{named_in};
+ghost use Rattle.hp_scripts.specs.Named.{named_in};
 ghost use Rattle.hp_search.specs.declared.lab_fault.LabFault.TheVariants.{OutOfMemory};
 ghost use Rattle.hp_search.specs.declared.program_fault.LabProgramFault.TheVariants.{Lab};
 ghost use Rattle.hp_lab_shell.specs.Checks.{IsCheckOf, IsCountIn, IsCountOf};
 
 use crate::text_and_status::TextAndStatus;
 use hp_check::{check, fault_count, write_report};
-use hp_names::NamedScenario;
 use hp_scenario::ScenarioFault;
+use hp_scripts::{NamedScenario, interleavings_line};
 use hp_search::LabProgramFault;
-use hp_starts::interleavings_line;
 use std::alloc::{AllocError, Global};
 
 /// The most interleavings that are counted.

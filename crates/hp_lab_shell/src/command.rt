@@ -57,11 +57,7 @@ const WORDS: [CommandWord; 7] = [
 
 /// Returns the command line of `hotplug_lab`: its subcommands with their options and help.
 pub(crate) fn lab_command<'a>(alloc: Global) -> Result<Command<'a>, AllocError> {
-    let mut program = without_words(alloc);
-    for word in &WORDS {
-        program = with_word(program, command_of(alloc, word))?;
-    }
-    Ok(program)
+    with_words(alloc, without_words(alloc), &WORDS)
 }
 
 /// Returns the program without its subcommands.
@@ -77,6 +73,18 @@ fn without_words<'a>(alloc: Global) -> Command<'a> {
              prints only the first interleavings (0 with --scenario); if a log has faults.",
         )
         .subcommand_required(true)
+}
+
+/// Adds subcommands to the program.
+fn with_words<'a>(
+    alloc: Global,
+    mut program: Command<'a>,
+    words: &[CommandWord],
+) -> Result<Command<'a>, AllocError> {
+    for word in words {
+        program = with_word(program, command_of(alloc, word))?;
+    }
+    Ok(program)
 }
 
 /// Adds a subcommand, or fails if creating it ran out of memory. Takes the `Result` as it is, so

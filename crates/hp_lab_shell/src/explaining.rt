@@ -7,7 +7,7 @@ use crate::arguments::{PROGRESS, SCENARIO};
 use crate::budgets::budgets_of;
 use crate::explain_words::{ANSWERS_NAME, SCENARIO_NAME};
 use crate::files::{Unread, bytes_of};
-use crate::messages::{say_fault, say_no_scenario, say_unbegun};
+use crate::messages::{say_no_scenario, say_unbegun, status_of};
 use crate::output::Output;
 use crate::progress::{Progress, Watching, shown_on};
 use crate::scripts::unbegun_in;
@@ -65,18 +65,9 @@ fn names_from<'a>(words: &ArgMatches<'a>) -> Result<FileNames<'a>, &'static str>
 /// names a fault, and the file if it could not be read.
 fn serve_files(rt: &HostRuntime, words: &ArgMatches<'_>, names: FileNames<'_>) -> u8 {
     match inputs_of(rt, names) {
-        Ok(inputs) => match serve_inputs(rt, words, &inputs) {
-            Ok(status) => status,
-            Err(fault) => failed(rt, None, fault),
-        },
-        Err(unread) => failed(rt, unread.name, unread.fault),
+        Ok(inputs) => status_of(rt, None, serve_inputs(rt, words, &inputs)),
+        Err(unread) => status_of(rt, unread.name, Err(unread.fault)),
     }
-}
-
-/// Prints a fault on standard error, and returns its exit status.
-fn failed(rt: &HostRuntime, file: Option<&str>, fault: LabProgramFault) -> u8 {
-    say_fault(rt, file, fault);
-    1
 }
 
 /// Returns the bytes of the files.

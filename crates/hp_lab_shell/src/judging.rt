@@ -6,9 +6,9 @@ use crate::output::Output;
 use clap::ArgMatches;
 use hp_log_pictures::draw_log;
 use hp_logs::{LineFault, LogFault, LogForm};
-use hp_numbers::number64;
 use hp_streams::Counted;
 use hp_text::{Brackets, write_escaped};
+use hp_units::number64;
 use hp_verdicts::{
     AllowedKinds, BlockRange, JudgeFault, JudgeOptions, ReportForm, SizeFault, judge_log,
 };

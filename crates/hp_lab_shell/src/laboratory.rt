@@ -3,8 +3,8 @@ ghost use Rattle.std.specs.Prelude.{◌<◌, ◌-◌, ◌^◌};
 ghost use Rattle.std.specs.Thread.{IsSync};
 
 use crate::words::Word;
+use hp_scripts::Unbegun;
 use hp_search::LabProgramFault;
-use hp_starts::Unbegun;
 use hp_states::Watch;
 use hp_streams::{Sink, Source};
 use std::alloc::Global;

@@ -5,7 +5,7 @@
 //! A `Laboratory` runs `check`, `explore`, `sum` and `trace`. The crate owns all commands: their
 //! options and help, their defaults and limits, what each needs of a scenario, and the exit status
 //! if no command is run. hp_check, hp_trace and hp_svg make the texts of `check` and `trace`, and
-//! hp_step_logs the lines of a log; this crate joins them and adds the exit status. hp_verdicts
+//! hp_judge the lines of a log; this crate joins them and adds the exit status. hp_verdicts
 //! does all of `judge` but the command line, and hp_explain all of `explain` but the command line.
 //! No contract covers how clap reads the command line, or what a file or a stream gives or takes:
 //! that is tested on the built program.

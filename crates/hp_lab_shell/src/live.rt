@@ -1,15 +1,14 @@
 //! The command `live`: it keeps a machine alive, and replies to each line that is typed or sent.
 
 use crate::arguments::{FILE, JSON};
-use crate::messages::{file_name, say_fault};
+use crate::messages::{file_name, status_of};
 use crate::output::Output;
 use crate::words::WIDTH;
 use clap::ArgMatches;
 use hp_live::{ObjectTalk, RowTalk};
-use hp_names::NamedScenario;
+use hp_scripts::NamedScenario;
 use hp_search::LabProgramFault;
-use hp_streams::{Counted, Failed, Source, read_all, write_all};
-use hp_talk::{Talk, TalkEnd, run_talk};
+use hp_streams::{Counted, Failed, Source, Talk, TalkEnd, read_all, run_talk, write_all};
 use std::fs;
 use std::io::{IsTerminal, Write};
 
@@ -36,17 +35,6 @@ fn serve_named(rt: &HostRuntime, words: &ArgMatches<'_>, name: &str) -> u8 {
     }
 }
 
-/// Returns the exit status. Standard error names a fault, and the file if it could not be read.
-fn status_of(rt: &HostRuntime, file: Option<&str>, ended: Result<u8, LabProgramFault>) -> u8 {
-    match ended {
-        Ok(status) => status,
-        Err(fault) => {
-            say_fault(rt, file, fault);
-            1
-        }
-    }
-}
-
 /// Returns the name of the scenario's file, or what is wrong with the command line.
 fn scenario_name<'a>(words: &ArgMatches<'a>) -> Result<&'a str, &'static str> {
     if words.get_flag("state") && !words.get_flag(JSON) {
@@ -66,14 +54,40 @@ fn talk_after(
     named: NamedScenario,
 ) -> Result<u8, LabProgramFault> {
     if words.get_flag(JSON) {
-        let mut talk = ObjectTalk::begin(rt.alloc(), named, words.get_flag("state"))?;
-        return talk_with(rt, &mut talk);
+        return talk_in_objects(rt, named, words.get_flag("state"));
     }
     let width = words.get_one::<u64>("width").unwrap_or(WIDTH);
-    let mut talk = RowTalk::begin(rt.alloc(), named, width, words.get_flag("orders"))?;
+    talk_in_rows(rt, named, width, words.get_flag("orders"))
+}
+
+/// Replies to each line of standard input with an object of JSON. Returns the exit status.
+fn talk_in_objects(
+    rt: &HostRuntime,
+    named: NamedScenario,
+    shows_state: bool,
+) -> Result<u8, LabProgramFault> {
+    let mut talk = ObjectTalk::begin(rt.alloc(), named, shows_state)?;
+    talk_with(rt, &mut talk)
+}
+
+/// Prints the row of the memory, and replies to each line of standard input with its rows. Returns
+/// the exit status.
+fn talk_in_rows(
+    rt: &HostRuntime,
+    named: NamedScenario,
+    width: u64,
+    shows_orders: bool,
+) -> Result<u8, LabProgramFault> {
+    let mut talk = RowTalk::begin(rt.alloc(), named, width, shows_orders)?;
+    talk_from_first_row(rt, &mut talk)
+}
+
+/// Prints the first row of a talk, and goes on with the talk. Returns the exit status, which is 1
+/// if the reader of standard output has gone.
+fn talk_from_first_row(rt: &HostRuntime, talk: &mut RowTalk) -> Result<u8, LabProgramFault> {
     let mut writer = Output::new(rt.stdout());
     match write_all(&mut writer, talk.first_row().as_bytes()) {
-        Ok(()) => talk_with(rt, &mut talk),
+        Ok(()) => talk_with(rt, talk),
         Err(Failed) if writer.is_left() => Ok(1),
         Err(Failed) => Err(LabProgramFault::WriteFailed),
     }

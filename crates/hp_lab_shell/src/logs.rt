@@ -5,8 +5,8 @@ ghost use Rattle.hp_lab_shell.specs.Shown.{HasLog};
 
 use crate::plain::plain_scenario;
 use crate::text_and_status::TextAndStatus;
+use hp_judge::{write_event, write_size};
 use hp_search::LabProgramFault;
-use hp_step_logs::{write_event, write_size};
 use hp_trace::{ScenarioLog, trace_log};
 use std::alloc::{AllocError, Global};
 

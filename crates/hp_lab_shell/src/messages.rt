@@ -1,7 +1,7 @@
 //! The faults and warnings that are printed on standard error.
 
+use hp_scripts::Unbegun;
 use hp_search::LabProgramFault;
-use hp_starts::Unbegun;
 use hp_text::{Brackets, write_escaped};
 use std::alloc::{AllocError, Global};
 
@@ -50,6 +50,22 @@ pub(crate) fn say_fault(rt: &HostRuntime, file: Option<&str>, fault: LabProgramF
     };
     if fault.is_of_scenario() {
         let _ = eprintln!(rt; "hotplug_lab: `hotplug_lab check` says what is wrong, and where");
+    }
+}
+
+/// Returns the exit status, which is 1 after a fault. Standard error names the fault, and the file
+/// if it could not be read.
+pub(crate) fn status_of(
+    rt: &HostRuntime,
+    file: Option<&str>,
+    served: Result<u8, LabProgramFault>,
+) -> u8 {
+    match served {
+        Ok(status) => status,
+        Err(fault) => {
+            say_fault(rt, file, fault);
+            1
+        }
     }
 }
 

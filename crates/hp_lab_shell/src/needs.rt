@@ -1,13 +1,13 @@
 //! What a command needs of a scenario, and what is worth a warning.
 ghost use Rattle.std.specs.Prelude.{◌≡◌, IfErr, IfOk, OnOk, true};
-ghost use Rattle.hp_names.specs.Named.{named_in};
+ghost use Rattle.hp_scripts.specs.Named.{named_in};
 ghost use Rattle.hp_lab_shell.specs.Needs.{HasLines, IsLineFault, IsPast, first_shown, has_line, last_named, setup_named, unbegun_of};
 
 use crate::checks::ALL;
 use crate::scripts::{line_count, unbegun_in};
 use crate::words::Word;
+use hp_scripts::Unbegun;
 use hp_search::LabProgramFault;
-use hp_starts::Unbegun;
 use hp_trace::View;
 use std::alloc::{AllocError, Global};
 

@@ -5,8 +5,8 @@ ghost use Rattle.hp_lab_shell.specs.Faults.{IsUnread};
 ghost use Rattle.hp_lab_shell.specs.Shown.{InPlain};
 
 use crate::checks::ALL;
-use hp_names::{NamedScenario, resolve_front};
 use hp_scenario::Scenario;
+use hp_scripts::{NamedScenario, resolve_front};
 use hp_search::LabProgramFault;
 use std::alloc::Global;
 

@@ -1,11 +1,10 @@
 //! What is read from a scenario without a search.
 ghost use Rattle.std.specs.Prelude.{◌≡◌, IfOk};
-ghost use Rattle.hp_names.specs.Named.{named_in};
+ghost use Rattle.hp_scripts.specs.Named.{named_in};
 ghost use Rattle.hp_lab_shell.specs.Scripts.{count_of, unbegun_in};
 
-use hp_names::NamedScenario;
 use hp_scenario::ScenarioFault;
-use hp_starts::{Unbegun, unbegun_lines};
+use hp_scripts::{NamedScenario, Unbegun, unbegun_lines};
 use std::alloc::{AllocError, Global};
 
 /// Returns the number of lines of the scenario, or `None` if the bytes are not a scenario.

@@ -54,19 +54,19 @@ pub(crate) const EXPLORE: [Argument; 14] = [
     },
     Argument {
         name: FIND,
-        takes: Takes::Texts,
+        takes: Takes::Texts("TEXT"),
         help: "Searches for an end with this line, with the fewest changes of processor",
         against: &[],
     },
     Argument {
         name: NEVER,
-        takes: Takes::Texts,
+        takes: Takes::Texts("TEXT"),
         help: "The same, with status 0 if there is no such end, and 3 if there is one",
         against: &[FIND],
     },
     Argument {
         name: PART,
-        takes: Takes::Part,
+        takes: Takes::Text("I/N"),
         help: "Searches only the I-th of N parts, and writes it for `sum`",
         against: &[FIND, NEVER, SCENARIO, JOBS],
     },
@@ -78,7 +78,7 @@ pub(crate) const EXPLORE: [Argument; 14] = [
     },
     Argument {
         name: GROUP,
-        takes: Takes::Group,
+        takes: Takes::Text("PART"),
         help: "Puts ends together that agree in the blocks, in the answers, or in how plans ended",
         against: &[FIND, NEVER, PART, SCENARIO],
     },

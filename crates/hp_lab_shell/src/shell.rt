@@ -6,7 +6,9 @@ use crate::files::bytes_of;
 use crate::judging::serve_judge;
 use crate::laboratory::{Laboratory, Served};
 use crate::live::serve_live;
-use crate::messages::{file_name, say_fault, say_no_line, say_no_scenario, say_unbegun, say_words};
+use crate::messages::{
+    file_name, say_fault, say_no_line, say_no_scenario, say_unbegun, say_words, status_of,
+};
 use crate::output::Output;
 use crate::progress::{Progress, Watching, shown_on};
 use crate::words::{
@@ -54,18 +56,6 @@ fn serve_request<L: Laboratory, T: Threads + Wait + Sync>(
             }
             Err(unread) => status_of(rt, unread.name, Err(unread.fault)),
         },
-    }
-}
-
-/// Returns the exit status, which is 1 after a fault. Standard error names the fault, and the file
-/// if it could not be read.
-fn status_of(rt: &HostRuntime, file: Option<&str>, served: Result<u8, LabProgramFault>) -> u8 {
-    match served {
-        Ok(status) => status,
-        Err(fault) => {
-            say_fault(rt, file, fault);
-            1
-        }
     }
 }
 

@@ -110,13 +110,13 @@ pub(crate) const JUDGE: [Argument; 8] = [
     },
     Argument {
         name: BLOCKS,
-        takes: Takes::Blocks,
+        takes: Takes::Text("A..B"),
         help: "Judges only the memory blocks from A to B - 1",
         against: &[],
     },
     Argument {
         name: ALLOW,
-        takes: Takes::Kinds,
+        takes: Takes::Texts("KIND"),
         help: "Counts faults of this kind, such as in-use, as lawful",
         against: &[],
     },

@@ -6,11 +6,11 @@ use crate::arguments::{
 use crate::budgets::{Budgets, MEMORY_MIB, budgets_of};
 use crate::checks::ALL;
 use clap::ArgMatches;
-use hp_numbers::number64;
 use hp_questions::Wanted;
 use hp_schedules::ShardId;
 use hp_search::{EndsForm, GroupBy, ScheduleForm};
 use hp_trace::View;
+use hp_units::number64;
 
 /// The default width of a cell, in pixels. The greatest follows.
 const CELL: u64 = 8;
@@ -146,12 +146,6 @@ pub(crate) fn is_past_the_found(matches: &ArgMatches<'_>) -> bool {
 /// Printed if the text of `--part` names no part.
 const NO_PART: &str = "--part may be I/N, with I from 1 to N, and N at most 1000000";
 
-/// Parses a part as `I/N`.
-fn part_named(text: &str) -> Option<ShardId> {
-    let (number, of) = text.split_once('/')?;
-    ShardId::new(number64(number)?, number64(of)?)
-}
-
 /// Returns whether a command asked for a scenario, but the exit status shows that there is no
 /// interleaving to make it of.
 pub(crate) fn lacks_scenario(word: Word<'_>, status: u8) -> bool {
@@ -165,10 +159,11 @@ pub(crate) fn lacks_scenario(word: Word<'_>, status: u8) -> bool {
     }
 }
 
-/// Returns the part that `--part` names, if there is such a part.
+/// Returns the part that `--part` names as `I/N`, if there is such a part.
 pub(crate) fn part_from(matches: &ArgMatches<'_>) -> Option<ShardId> {
     let (_name, words) = matches.subcommand()?;
-    part_named(words.get_str(PART)?)
+    let (number, of) = words.get_str(PART)?.split_once('/')?;
+    ShardId::new(number64(number)?, number64(of)?)
 }
 
 /// Returns the names of files; empty if no file is named.

@@ -10,10 +10,7 @@ use Rattle.hp_units.specs.declared.rows.Boot.{Boot}
 use Rattle.hp_units.specs.declared.rows.Boot.TheVariants.{Offline as OfflineBoot, Normal as NormalBoot, Movable as MovableBoot, Absent as AbsentBoot}
 use Rattle.hp_units.specs.declared.rows.Kind.{Kind}
 use Rattle.hp_units.specs.declared.rows.Row.{Row}
-use Rattle.hp_units.specs.declared.rows.Mobility.{Mobility}
 use Rattle.hp_units.specs.declared.rows.Mobility.TheVariants.{Unmovable}
-use Rattle.hp_units.specs.declared.rows.State.TheVariants.{Absent as AbsentState}
-use Rattle.hp_units.specs.declared.rows.Zone.TheVariants.{Normal as NormalZone, Movable as MovableZone}
 use Rattle.hp_units.specs.LayoutParts.{LayoutParts, IsLayout}
 use Rattle.hp_units.specs.Arithmetic.{block_of, block_of_pageblock, frame_count, pageblock_count}
 use Rattle.hp_units.specs.Memory.{Memory, class_index, offline_row, plain_kind, pool_index, row_of}
@@ -21,8 +18,8 @@ use Rattle.hp_units.specs.FreeAreas.{is_on}
 use Rattle.hp_units.specs.Pages.{holds}
 use Rattle.hp_units.specs.Rows.{is_going, online_block}
 use Rattle.hp_units.specs.Boot.{boot_block, boot_memory, empty_memory}
-use Rattle.hp_units.specs.Placement.{IsKernelAt, IsRow, IsWellPlaced, cached_places, free_places, is_unplugged, kernel_places, mapped_places, offline_places, places_from}
-use Rattle.hp_lemmas.proofs.KernelBlocks.{kernel_covered}
+use Rattle.hp_units.specs.Placement.{IsKernelAt, IsWellPlaced, cached_places, free_places, kernel_places, mapped_places, offline_places, places_from}
+use Rattle.hp_units.proofs.KernelBlockFrames.{kernel_covered}
 use Rattle.hp_laws.proofs.Rows.{unplugged-placed}
 use Rattle.hp_laws.proofs.Onlines.{online_block-placed}
 
@@ -32,7 +29,7 @@ same_everywhere : {X : Type 0} (n i : ℕ) (d : X) → get_or (replicate n d) i 
 same_everywhere n i d =
     elim (cases_lt i n) [
       | inl low ↦ get_or-replicate n i d d low
-      | inr high ↦ get_or_past (replicate n d) i d (omega (arith, length-replicate n d))
+      | inr high ↦ get_or_past _ i d (omega (arith, length-replicate n d))
     ]
 
 no_free : (frame number n : ℕ) → places_from frame number (replicate n []) ≡ 0
@@ -69,10 +66,7 @@ off_none frame [] e on = cc
 off_none frame (x ∷ xs) e on = cc
 
 plain_movable : (m : Kind) → m ≡ plain_kind → m.mobility ≡ Unmovable → ⊥
-plain_movable m e u = unmovable m.mobility (ap (λ (k : Kind). k.mobility) (sym e)) u
-  where
-    unmovable : (m : Mobility) → plain_kind.mobility ≡ m → m ≡ Unmovable → ⊥
-    unmovable m e u = cc
+plain_movable m e u = cc (rw e at u)
 
 pub empty-placed : (l : LayoutParts) → IsWellPlaced l (empty_memory l)
 empty-placed l = record {
@@ -106,8 +100,7 @@ empty-placed l = record {
     isolated =
         λ pageblock. ap (λ (k : Kind). k.isolated) (same_everywhere (pageblock_count l) pageblock plain_kind)
         ∙ sym (ap is_going (same_everywhere l.blocks (block_of_pageblock l pageblock) offline_row));
-    rows =
-        λ block. subst (λ (r : Row). IsRow r) (sym (same_everywhere l.blocks block offline_row)) (refl, refl);
+    rows = λ block. rw (same_everywhere l.blocks block offline_row) (refl, refl);
     words =
         λ owner page. rw (no_entry ℕ None l.owners l.pages owner page refl)
         (rw (no_entry (List ℕ) None l.owners l.pages owner page refl) tt);
@@ -137,8 +130,7 @@ empty-placed l = record {
         let none : count_by (holds frame) (replicate pages None) ≡ 0 = row_none frame pages in
         let all : sum_by (λ (row : List (Option ℕ)). count_by (holds frame) row)
         (replicate owners (replicate pages None)) ≡ owners * 0 =
-        sum_by-replicate (λ (row : List (Option ℕ)). count_by (holds frame) row) owners (replicate pages None)
-        ∙ ap (λ (n : ℕ). owners * n) none in
+        rw (sum_by-replicate (λ (row : List (Option ℕ)). count_by (holds frame) row) owners) (rw none) in
         omega arith
 
 -- ---- each block becomes what the layout says
@@ -161,22 +153,21 @@ boot_block-placed l s block OfflineBoot layout low h =
     record { placed = h.placed; later = λ other above. h.later other (omega arith) }
 boot_block-placed l s block NormalBoot layout low h = record {
   placed =
-      online_block-placed l NormalZone s block layout h.placed (ap is_unplugged (h.later block (omega arith)))
+      online_block-placed l _ s block layout h.placed (rw (h.later block (omega arith)))
       low;
-  later = later_rows s.blocks.rows block _ h.later;
+  later = later_rows _ block _ h.later;
 }
 boot_block-placed l s block MovableBoot layout low h = record {
   placed =
-      online_block-placed l MovableZone s block layout h.placed
-      (ap is_unplugged (h.later block (omega arith)))
+      online_block-placed l _ s block layout h.placed (rw (h.later block (omega arith)))
       low;
-  later = later_rows s.blocks.rows block _ h.later;
+  later = later_rows _ block _ h.later;
 }
 boot_block-placed l s block AbsentBoot layout low h = record {
   placed =
-      unplugged-placed l s block (record offline_row { state = AbsentState }) h.placed
-      (ap is_unplugged (h.later block (omega arith))) low (refl, refl) refl refl;
-  later = later_rows s.blocks.rows block _ h.later;
+      unplugged-placed l s block _ h.placed
+      (rw (h.later block (omega arith))) low (refl, refl) refl refl;
+  later = later_rows _ block _ h.later;
 }
 
 boots-placed : (l : LayoutParts) (s : Memory) (from : ℕ) (boots : List Boot) → IsLayout l
@@ -191,5 +182,5 @@ boots-placed l s from (boot ∷ boots) layout low h =
 pub boot-placed : (l : LayoutParts) → IsLayout l → IsWellPlaced l (boot_memory l)
 unfolding boot_memory
 boot-placed l layout =
-    boots-placed l (empty_memory l) 0 l.boot layout (omega (arith, layout.boot))
-    (record { placed = empty-placed l; later = λ block above. same_everywhere l.blocks block offline_row })
+    boots-placed l _ 0 l.boot layout (omega (arith, layout.boot))
+    (record { placed = empty-placed l; later = λ block above. same_everywhere _ block _ })

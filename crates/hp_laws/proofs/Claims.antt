@@ -1,9 +1,9 @@
 -- An operation begins, and is released.
-use Rattle.std.proofs.Common.{◌≡◌, ℕ, zero, suc, ◌+◌, ◌<◌, ◌≤◌, List, ◌∷◌, get_or, set, Bool, true, false, not, cond, Option, Some, None, refl, sym, ◌∙◌, subst, arith, IfSome, IsSome, eqb-true, ◌==◌, ◌&&◌}
+use Rattle.std.proofs.Common.{◌≡◌, ℕ, zero, suc, ◌+◌, ◌<◌, ◌≤◌, List, get_or, set, Bool, true, false, not, cond, Option, Some, None, refl, ◌∙◌, subst, arith, IfSome, IsSome, eqb-true, ◌==◌, ◌&&◌, inl, inr}
 use Rattle.std.specs.Prelude.{find, filter, fold, unwrap_or}
 use Rattle.std.specs.List.{range_with_len}
 use Rattle.std.specs.Option.{option_map, option_map_or}
-use Rattle.std.proofs.lemmas.Bool.{not-false, or_left}
+use Rattle.std.proofs.lemmas.Bool.{not-false, or_left, cases_Bool}
 use Rattle.std.proofs.lemmas.List.{get_or-set_other}
 use Rattle.hp_units.specs.declared.plans.Item.{Item}
 use Rattle.hp_units.specs.declared.rows.Claim.{Claim}
@@ -18,7 +18,7 @@ use Rattle.hp_units.specs.LayoutParts.{LayoutParts, IsLayout}
 use Rattle.hp_units.specs.Choices.{first_some}
 use Rattle.hp_units.specs.Memory.{Memory, row_of, offline_row}
 use Rattle.hp_units.specs.Refusals.{plan_refusals}
-use Rattle.hp_units.specs.Rows.{begin_block, begin_plan, claim_block, claimed_row, is_claimed_by, is_going, is_going_state, is_off, is_offline, is_offline_state, is_online, is_online_state, online_again, release_block, release_blocks, wish_of, with_block_row, zone_of_block}
+use Rattle.hp_units.specs.Rows.{begin_block, begin_plan, claim_block, is_claimed_by, is_going, is_going_state, is_off, is_offline, is_offline_state, is_online, is_online_state, online_again, release_block, release_blocks, wish_of, with_block_row}
 use Rattle.hp_units.specs.Placement.{IsRowOf, IsWellPlaced, is_unplugged, wishes_off}
 use Rattle.hp_laws.proofs.Options.{found_fails, found_passes, map_none}
 use Rattle.hp_laws.proofs.OwnedContents.{all_none}
@@ -52,20 +52,14 @@ pub fold_blocks : (Q : ℕ → Memory → Type 0) (f : Memory → ℕ → Memory
     → Q from t → Q (from + count) (fold f t (filter p (range_with_len from count)))
 fold_blocks Q f p from zero t acts skips h = subst (λ (n : ℕ). Q n t) (omega arith) h
 fold_blocks Q f p from (suc count) t acts skips h =
-    by_test (p from) refl (λ u q.
-    fold_blocks Q f p (from + 1) count u (λ block v below. acts block v (omega (arith, below))) skips q)
-  where
-    by_test : (b : Bool) → p from ≡ b
-        → ((u : Memory) → Q (from + 1) u
-        → Q (from + 1 + count) (fold f u (filter p (range_with_len (from + 1) count))))
-        → Q (from + suc count) (fold f t (cond b (from ∷ filter p (range_with_len (from + 1) count))
-        (filter p (range_with_len (from + 1) count))))
-    by_test true e rest =
-        subst (λ (n : ℕ). Q n (fold f (f t from) (filter p (range_with_len (from + 1) count)))) (omega arith)
-        (rest (f t from) (acts from t (omega arith) e h))
-    by_test false e rest =
-        subst (λ (n : ℕ). Q n (fold f t (filter p (range_with_len (from + 1) count)))) (omega arith)
-        (rest t (skips from t h))
+    let rest : (u : Memory) → Q (from + 1) u
+    → Q (from + 1 + count) (fold f u (filter p (range_with_len (from + 1) count))) =
+    λ u. fold_blocks Q f p (from + 1) count u (λ block v below. acts block v (omega (arith, below))) skips in
+    let sum : from + suc count ≡ from + 1 + count = omega arith in
+    elim (cases_Bool (p from)) [
+      | inl e ↦ rw (sum, e) (rest (f t from) (acts from t (omega arith) e h))
+      | inr e ↦ rw (sum, e) (rest t (skips from t h))
+    ]
 
 -- ---- zones of rows
 
@@ -97,8 +91,8 @@ reclaimed : (l : LayoutParts) (s : Memory) (block : ℕ) (claim : Option Claim) 
 reclaimed l s block claim p low off still =
     let row : Row = row_of s.blocks block in
     let gone : is_unplugged row ≡ true = or_left (is_offline row) _ off in
-    unplugged-placed l s block (record row { claim = claim }) p gone low (offline_claim row.state row.zone
-    row.claim claim off still (p.in_order.rows block)) (unplugged_stays row.state gone) gone
+    unplugged-placed l s block (record row { claim = claim }) p gone low (offline_claim _ _
+    _ claim off still (p.in_order.rows block)) (unplugged_stays _ gone) gone
 
 -- ---- an operation claims a block
 
@@ -112,9 +106,9 @@ claim_block-placed : (l : LayoutParts) (op : ℕ) (s : Memory) (block : ℕ) (wi
     → IsWellPlaced l (claim_block l op s block wish)
 claim_block-placed l op s block OffWish layout p low may =
     let row : Row = row_of s.blocks block in
-    let has : IsSome row.zone = online_zone row.state row.zone row.claim may (p.in_order.rows block) in
-    moved_block-placed l s block (zone_of_block s.blocks block) true (claimed_row row op OffWish) layout p low
-    (some_zone row.zone has) (some_zone row.zone has) (has, refl) refl refl
+    let has : IsSome row.zone = online_zone _ _ _ may (p.in_order.rows block) in
+    moved_block-placed l s block _ true _ layout p low
+    (some_zone _ has) (some_zone _ has) (has, refl) refl refl
 claim_block-placed l op s block NormalWish layout p low may =
     reclaimed l s block (Some (record { op = op; wish = NormalWish })) p low may refl
 claim_block-placed l op s block MovableWish layout p low may =
@@ -126,20 +120,14 @@ claim_block-next : (l : LayoutParts) (s : Memory) (op : ℕ) (t : Memory) (block
 claim_block-next l s op t block wish layout low may h = record {
   placed =
       claim_block-placed l op t block wish layout h.placed low
-      (subst (λ (row : Row). MayClaim row wish) (sym (h.later block (omega arith))) may);
+      (rw (h.later block (omega arith)) may);
   later = rows wish;
 }
   where
     rows : (wish : Wish) (other : ℕ) → block + 1 ≤ other
         → row_of (claim_block l op t block wish).blocks other ≡ row_of s.blocks other
-    rows OffWish =
-        later_rows t.blocks.rows s.blocks.rows block (claimed_row (row_of t.blocks block) op OffWish) h.later
-    rows NormalWish =
-        later_rows t.blocks.rows s.blocks.rows block (claimed_row (row_of t.blocks block) op NormalWish)
-        h.later
-    rows MovableWish =
-        later_rows t.blocks.rows s.blocks.rows block (claimed_row (row_of t.blocks block) op MovableWish)
-        h.later
+    rows OffWish = later_rows _ _ block _ h.later
+    rows _ = later_rows _ _ block _ h.later
 
 begin_all : (l : LayoutParts) (s : Memory) (op : ℕ) (plan : List Item) (t : Memory) (from count : ℕ)
     → IsLayout l → from + count ≤ l.blocks
@@ -148,7 +136,7 @@ begin_all : (l : LayoutParts) (s : Memory) (op : ℕ) (plan : List Item) (t : Me
 begin_all l s op plan t from zero layout low may h = h.placed
 begin_all l s op plan t from (suc count) layout low may h =
     begin_all l s op plan (begin_block l op plan t from) (from + 1) count layout (omega arith) may
-    (by_wish (wish_of plan from) (may from))
+    (by_wish _ (may from))
   where
     by_wish : (o : Option Wish) → IfSome o (MayClaim (row_of s.blocks from))
         → IsUnchangedFrom l s (from + 1) (option_map_or (claim_block l op t from) o t)
@@ -203,7 +191,7 @@ claimed_offline op _ zone _ e f h = cc
 release_block-placed : (l : LayoutParts) (op : ℕ) (s : Memory) (block : ℕ) → IsLayout l → IsWellPlaced l s
     → block < l.blocks → is_claimed_by op (row_of s.blocks block) ≡ true
     → IsWellPlaced l (release_block l s block)
-release_block-placed l op s block layout p low mine = by_state (is_going (row_of s.blocks block)) refl
+release_block-placed l op s block layout p low mine = by_state _ refl
   where
     row : Row
     row = row_of s.blocks block
@@ -212,13 +200,11 @@ release_block-placed l op s block layout p low mine = by_state (is_going (row_of
         → IsWellPlaced l
         (cond b (online_again l s block) (with_block_row s block (record row { claim = None })))
     by_state true e =
-        let has : IsSome row.zone = going_zone row.state row.zone row.claim e (p.in_order.rows block) in
-        moved_block-placed l s block (zone_of_block s.blocks block) false
-        (record { state = OnlineState; zone = row.zone; claim = None }) layout p low
-        (some_zone row.zone has) (some_zone row.zone has) (has, refl) refl refl
+        let has : IsSome row.zone = going_zone _ _ _ e (p.in_order.rows block) in
+        moved_block-placed l s block _ false _ layout p low
+        (some_zone _ has) (some_zone _ has) (has, refl) refl refl
     by_state false e =
-        reclaimed l s block None p low
-        (claimed_offline op row.state row.zone row.claim e mine (p.in_order.rows block)) refl
+        reclaimed l s block None p low (claimed_offline op _ _ _ e mine (p.in_order.rows block)) refl
 
 release_block-next : (l : LayoutParts) (op : ℕ) (s t : Memory) (block : ℕ) → IsLayout l → block < l.blocks
     → is_claimed_by op (row_of s.blocks block) ≡ true → IsUnchangedFrom l s block t
@@ -226,25 +212,20 @@ release_block-next : (l : LayoutParts) (op : ℕ) (s t : Memory) (block : ℕ) �
 release_block-next l op s t block layout low mine h = record {
   placed =
       release_block-placed l op t block layout h.placed low
-      (subst (λ (row : Row). is_claimed_by op row ≡ true) (sym (h.later block (omega arith))) mine);
-  later = rows (is_going (row_of t.blocks block));
+      (rw (h.later block (omega arith)) mine);
+  later = rows _;
 }
   where
     rows : (b : Bool) (other : ℕ) → block + 1 ≤ other
         → row_of (cond b (online_again l t block) (with_block_row t block
         (record (row_of t.blocks block) { claim = None }))).blocks other ≡ row_of s.blocks other
-    rows true =
-        later_rows t.blocks.rows s.blocks.rows block
-        (record { state = OnlineState; zone = (row_of t.blocks block).zone; claim = None }) h.later
-    rows false =
-        later_rows t.blocks.rows s.blocks.rows block (record (row_of t.blocks block) { claim = None }) h.later
+    rows true = later_rows _ _ block _ h.later
+    rows false = later_rows _ _ block _ h.later
 
 pub release-placed : (l : LayoutParts) (s : Memory) (op : ℕ) → IsLayout l → IsWellPlaced l s
     → IsWellPlaced l (release_blocks l s op)
 unfolding release_blocks
 release-placed l s op layout p =
-    (fold_blocks (IsUnchangedFrom l s) (release_block l) (λ block. is_claimed_by op (row_of s.blocks block)) 0
-    l.blocks s
+    (fold_blocks _ _ (λ block. is_claimed_by op (row_of s.blocks block)) 0 _ s
     (λ block u low mine h. release_block-next l op s u block layout (omega (arith, low)) mine h)
-    (λ block u h. unchanged_next l s block u h)
-    (record { placed = p; later = λ block above. refl })).placed
+    (unchanged_next l s) (record { placed = p; later = λ block above. refl })).placed

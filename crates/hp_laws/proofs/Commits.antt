@@ -1,9 +1,9 @@
 -- An operation commits: its going blocks leave the areas, and its other ones go online.
-use Rattle.std.proofs.Common.{◌≡◌, ℕ, zero, suc, ◌+◌, ◌*◌, ◌^◌, ◌<◌, ◌≤◌, List, [], ◌∷◌, ◌++◌, length, Bool, true, false, cond, Option, Some, None, refl, sym, ◌∙◌, ap, subst, arith, inl, inr, eqb-true, eq-eqb, ◌==◌, ◌||◌}
+use Rattle.std.proofs.Common.{◌≡◌, ℕ, zero, suc, ◌+◌, ◌*◌, ◌^◌, ◌<◌, ◌≤◌, List, [], ◌∷◌, ◌++◌, length, Bool, true, false, Option, Some, None, refl, ◌∙◌, ap, arith, inl, inr, eqb-true, eq-eqb, ◌==◌, ◌||◌}
 use Rattle.std.specs.Prelude.{filter, fold}
 use Rattle.std.specs.List.{range_with_len, list_all}
 use Rattle.std.specs.Option.{option_map_or}
-use Rattle.std.proofs.lemmas.Bool.{and_parts, cases_eq, or_cases, or_left}
+use Rattle.std.proofs.lemmas.Bool.{and_parts, cases_eq, or_cases, or_left, cond_both}
 use Rattle.std.proofs.lemmas.List.Folds.{list_any-append}
 use Rattle.std.proofs.lemmas.Nat.{shl-shr}
 use Rattle.hp_units.specs.declared.rows.Claim.{Claim}
@@ -15,17 +15,16 @@ use Rattle.hp_units.specs.declared.rows.State.TheVariants.{Offline as OfflineSta
 use Rattle.hp_units.specs.declared.rows.Wish.{Wish}
 use Rattle.hp_units.specs.declared.rows.Wish.TheVariants.{Off as OffWish, Normal as NormalWish, Movable as MovableWish}
 use Rattle.hp_units.specs.declared.rows.Zone.{Zone}
-use Rattle.hp_units.specs.declared.rows.Zone.TheVariants.{Normal as NormalZone, Movable as MovableZone}
 use Rattle.hp_units.specs.LayoutParts.{LayoutParts, IsLayout}
-use Rattle.hp_units.specs.Arithmetic.{all_blocks, block_of_pageblock, pageblocks_of}
-use Rattle.hp_units.specs.Memory.{FreeAreas, Memory, free_list, with_free_list, offline_row, row_of, isolated_class, usable_class}
+use Rattle.hp_units.specs.Arithmetic.{block_of_pageblock}
+use Rattle.hp_units.specs.Memory.{FreeAreas, Memory, free_list, with_free_list, row_of, isolated_class, usable_class}
 use Rattle.hp_units.specs.FreeAreas.{is_on}
 use Rattle.hp_units.specs.Isolation.{add_pageblock}
 use Rattle.hp_units.specs.Refusals.{is_all_free}
-use Rattle.hp_units.specs.Rows.{blocks_of, commit_block, is_absent_state, commit_blocks, going_blocks, grant, is_claimed_by, is_going, is_going_state, is_off, is_offline_state, offline_block, online_block, zone_of_block}
+use Rattle.hp_units.specs.Rows.{commit_block, is_absent_state, commit_blocks, going_blocks, grant, is_claimed_by, is_going, is_going_state, is_off, is_offline_state, offline_block, online_block, zone_of_block}
 use Rattle.hp_units.specs.Placement.{IsRowOf, IsWellPlaced, is_unplugged, wishes_off}
-use Rattle.hp_lemmas.proofs.Sizes.{with_free_list-size}
-use Rattle.hp_lemmas.proofs.Lists.{free_list-cases, on_tail}
+use Rattle.hp_units.proofs.Sizes.{with_free_list-size}
+use Rattle.hp_units.proofs.ListEdits.{free_list-cases, on_tail}
 use Rattle.hp_laws.proofs.Onlines.{online_block-placed, quotient}
 use Rattle.hp_laws.proofs.Isolations.{pageblock_elsewhere}
 use Rattle.hp_laws.proofs.Claims.{fold_blocks, later_rows}
@@ -107,15 +106,14 @@ offline-next : (l : LayoutParts) (s t : Memory) (block : ℕ) → IsLayout l →
     → CommitsFrom l s block t
     → CommitsFrom l s (block + 1) (offline_block l t block)
 offline-next l s t block layout low going all h =
-    let range = remove_block-range l t block (zone_of_block t.blocks block) h.placed low all in
+    let range = remove_block-range l t block _ h.placed low all in
     record {
       placed =
-          offlined-placed l t block (zone_of_block t.blocks block) layout h.placed low
-          (going_plugged (row_of t.blocks block).state going) all;
-      later = later_rows t.blocks.rows s.blocks.rows block offline_row h.later;
+          offlined-placed l t block _ layout h.placed low
+          (going_plugged _ going) all;
+      later = later_rows _ _ block _ h.later;
       stays = λ class pageblock above on. range.stays class l.order (pageblock * 2 ^ l.order)
-          (rw (shl-shr pageblock l.order)
-          (pageblock_elsewhere l block pageblock (λ same. absurd (omega arith))))
+          (rw (shl-shr pageblock l.order) (pageblock_elsewhere l block _ (λ same. absurd (omega arith))))
           (h.stays class pageblock (omega arith) on);
     }
 
@@ -127,31 +125,28 @@ grantable_later l s t block ready h going pageblock among =
     let here : block_of_pageblock l pageblock ≡ block =
     quotient pageblock l.pageblocks block among.low among.high in
     h.stays (isolated_class (zone_of_block t.blocks block)) pageblock (omega arith)
-    (rw same (ready (ap is_going (sym same) ∙ going) pageblock among))
+    (rw same (ready (rw (← same, going)) pageblock among))
 
 pub commit_block-next : (l : LayoutParts) (s : Memory) (t : Memory) (block : ℕ) → IsLayout l
     → block < l.blocks → IsGrantable l s block → CommitsFrom l s block t
     → CommitsFrom l s (block + 1) (commit_block l t block)
-commit_block-next l s t block layout low ready h = by_claim (row_of t.blocks block).claim refl
+commit_block-next l s t block layout low ready h = by_claim _ refl
   where
     off : (claim : Claim) → (row_of t.blocks block).claim ≡ Some claim → is_off claim.wish ≡ false
         → is_unplugged (row_of t.blocks block) ≡ true
     off claim e still =
         let row : Row = row_of t.blocks block in
-        or_left (is_offline_state row.state) _ (claim_offline row.state row.zone row.claim claim e
-        (ap wishes_off e ∙ still) (h.placed.in_order.rows block))
+        or_left (is_offline_state row.state) _ (claim_offline _ _ _ claim e
+        (rw (e, still)) (h.placed.in_order.rows block))
 
     by_wish : (claim : Claim) (wish : Wish) → (row_of t.blocks block).claim ≡ Some claim → claim.wish ≡ wish
         → CommitsFrom l s (block + 1) (grant l t block wish)
     by_wish claim OffWish e w =
         let row : Row = row_of t.blocks block in
-        let going : is_going row ≡ true =
-        claim_going row.state row.zone row.claim (ap wishes_off e ∙ ap is_off w)
-        (h.placed.in_order.rows block) in
+        let going : is_going row ≡ true = claim_going _ _ _ (rw (e, w)) (h.placed.in_order.rows block) in
         offline-next l s t block layout low going (grantable_later l s t block ready h going) h
-    by_wish claim NormalWish e w = online-next l s t block NormalZone layout low (off claim e (ap is_off w)) h
-    by_wish claim MovableWish e w =
-        online-next l s t block MovableZone layout low (off claim e (ap is_off w)) h
+    by_wish claim NormalWish e w = online-next l s t block _ layout low (off claim e (rw w)) h
+    by_wish claim MovableWish e w = online-next l s t block _ layout low (off claim e (rw w)) h
 
     by_claim : (o : Option Claim) → (row_of t.blocks block).claim ≡ o
         → CommitsFrom l s (block + 1) (option_map_or (λ claim. grant l t block claim.wish) o t)
@@ -165,7 +160,7 @@ list_all_on p [] x all on = cc
 list_all_on p (y ∷ ys) x all on =
     let parts = and_parts (p y) (list_all p ys) all in
     elim (or_cases (y == x) (is_on x ys) on) [
-      | inl same ↦ subst (λ (n : ℕ). p n ≡ true) (eqb-true y x same) parts.0
+      | inl same ↦ rw (← eqb-true y x same) parts.0
       | inr there ↦ list_all_on p ys x parts.1 there
     ]
 
@@ -173,26 +168,17 @@ pub filter_on : (p : ℕ → Bool) (xs : List ℕ) (x : ℕ) → p x ≡ true �
     → is_on x (filter p xs) ≡ true
 filter_on p [] x e on = cc
 filter_on p (y ∷ ys) x e on = elim (or_cases (y == x) (is_on x ys) on) [
-  | inl same ↦ first (p y) (ap p (eqb-true y x same) ∙ e) same
-  | inr there ↦ later (p y) (filter_on p ys x e there)
+  | inl same ↦ rw (ap p (eqb-true y x same) ∙ e) (or_left (y == x) _ same)
+  | inr there ↦
+      let rest = filter_on p ys x e there in
+      cond_both (p y) _ _ (λ zs. is_on x zs ≡ true) (λ _. on_tail x y _ rest) (λ _. rest)
 ]
-  where
-    first : (b : Bool) → b ≡ true → (y == x) ≡ true → is_on x (cond b (y ∷ filter p ys) (filter p ys)) ≡ true
-    first false e same = cc
-    first true e same = or_left (y == x) (is_on x (filter p ys)) same
-
-    later : (b : Bool) → is_on x (filter p ys) ≡ true
-        → is_on x (cond b (y ∷ filter p ys) (filter p ys)) ≡ true
-    later false e = e
-    later true e = on_tail x y (filter p ys) e
 
 pub range_on : (from count x : ℕ) → from ≤ x → x < from + count → is_on x (range_with_len from count) ≡ true
 range_on from zero x low high = absurd (omega arith)
 range_on from (suc count) x low high = elim (cases_eq from x) [
   | inl same ↦ or_left (from == x) (is_on x (range_with_len (from + 1) count)) (eq-eqb from x same)
-  | inr ne ↦
-      on_tail x from (range_with_len (from + 1) count)
-      (range_on (from + 1) count x (omega arith) (omega arith))
+  | inr ne ↦ on_tail x from _ (range_on (from + 1) count x (omega arith) (omega arith))
 ]
 
 pub grantable : (l : LayoutParts) (s : Memory) (op : ℕ)
@@ -201,20 +187,18 @@ pub grantable : (l : LayoutParts) (s : Memory) (op : ℕ)
     → IsGrantable l s block
 grantable l s op all block low mine going pageblock among =
     let here : is_on block (going_blocks l s.blocks op) ≡ true =
-    filter_on (λ b. is_going (row_of s.blocks b)) (blocks_of l s.blocks op) block going
-    (filter_on (λ b. is_claimed_by op (row_of s.blocks b)) (all_blocks l) block mine
-    (range_on 0 l.blocks block (omega arith) (omega arith))) in
+    filter_on (λ b. is_going (row_of s.blocks b)) _ block going
+    (filter_on (λ b. is_claimed_by op (row_of s.blocks b)) _ block mine
+    (range_on 0 _ block (omega arith) (omega arith))) in
     list_all_on (λ n. is_on (n * 2 ^ l.order) (free_list s.free.areas
-    (isolated_class (zone_of_block s.blocks block)) l.order)) (pageblocks_of l block) pageblock
-    (list_all_on (is_all_free l s) (going_blocks l s.blocks op) block all here)
-    (range_on (block * l.pageblocks) l.pageblocks pageblock among.low among.high)
+    (isolated_class (zone_of_block s.blocks block)) l.order)) _ _ (list_all_on _ _ block all here)
+    (range_on _ _ _ among.low among.high)
 
 pub commit-placed : (l : LayoutParts) (s : Memory) (op : ℕ) → IsLayout l → IsWellPlaced l s
     → list_all (is_all_free l s) (going_blocks l s.blocks op) ≡ true → IsWellPlaced l (commit_blocks l s op)
 unfolding commit_blocks
 commit-placed l s op layout p all =
-    (fold_blocks (CommitsFrom l s) (commit_block l) (λ block. is_claimed_by op (row_of s.blocks block)) 0
-    l.blocks s
+    (fold_blocks _ _ (λ block. is_claimed_by op (row_of s.blocks block)) 0 _ s
     (λ block u low mine h. commit_block-next l s u block layout (omega (arith, low))
-    (grantable l s op all block (omega (arith, low)) mine) h) (λ block u h. commits_next l s block u h)
+    (grantable l s op all block (omega (arith, low)) mine) h) (commits_next l s)
     (record { placed = p; later = λ block above. refl; stays = λ class pageblock above on. on })).placed

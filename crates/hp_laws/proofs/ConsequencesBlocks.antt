@@ -13,11 +13,11 @@ use Rattle.hp_units.specs.Memory.{FreeAreas, free_list, with_free_list, class_in
 use Rattle.hp_units.specs.FreeAreas.{is_on}
 use Rattle.hp_units.specs.Placement.{free_places, list_places, places_from, covered}
 use Rattle.hp_laws.specs.Consequences.{IsFrameOf, IsInFreeBlock}
-use Rattle.hp_lemmas.proofs.Sizes.{with_free_list-size}
-use Rattle.hp_lemmas.proofs.Places.{HasOrder, class_index-lt, list_places-cons, with_free_list-places}
+use Rattle.hp_units.proofs.Sizes.{with_free_list-size}
+use Rattle.hp_units.proofs.Places.{HasOrder, class_index-lt, list_places-cons, with_free_list-places}
 use Rattle.hp_laws.proofs.Ordered.{AreOrdered}
-use Rattle.hp_lemmas.proofs.Geometry.{buddy_above, buddy_even, buddy_odd, multiple, multiple_aligned, same_above}
-use Rattle.hp_lemmas.proofs.Lists.{free_list-apart, list_places-le, on-places, on_cases, on_tail}
+use Rattle.hp_units.proofs.Geometry.{buddy_above, buddy_even, buddy_odd, multiple, multiple_aligned, same_above}
+use Rattle.hp_units.proofs.ListEdits.{free_list-apart, list_places-le, on-places, on_cases, on_tail}
 use Rattle.hp_laws.proofs.Areas.{has_order, on_free}
 use Rattle.hp_laws.proofs.Onlines.{quotient}
 
@@ -51,7 +51,7 @@ list_some frame order [] some = absurd (omega arith)
 list_some frame order (x ∷ xs) some = elim (cases_lt (covered frame order x) 1) [
   | inl none ↦
       let rest = list_some frame order xs (omega (arith, list_places-cons frame order x xs)) in
-      record { first = rest.first; on = on_tail rest.first x xs rest.on; within = rest.within }
+      record { first = rest.first; on = on_tail _ x xs rest.on; within = rest.within }
   | inr here ↦ record { first = x; on = on_head x xs; within = covered_in frame order x here }
 ]
 
@@ -86,14 +86,14 @@ places_some frame number (frames ∷ lists) some = elim (cases_lt (list_places f
       record {
         at = suc rest.at;
         low = omega (arith, rest.low);
-        some = subst (λ (n : ℕ). 1 ≤ list_places frame (n / 5) (get_or lists rest.at [])) sum rest.some;
+        some = rw (← sum) rest.some;
       }
   | inr here ↦
       let sum : number ≡ number + 0 = omega arith in
       record {
         at = 0;
         low = omega arith;
-        some = subst (λ (n : ℕ). 1 ≤ list_places frame (n / 5) frames) sum here;
+        some = rw (← sum) here;
       }
 ]
 
@@ -115,7 +115,7 @@ free_block a frame some =
     let start : 0 + list.at ≡ list.at = omega arith in
     let number : 5 * order + class_index class.0 ≡ list.at = omega (arith, class.1) in
     let found =
-    list_some frame order (get_or a.lists list.at [])
+    list_some frame order _
     (subst (λ (n : ℕ). 1 ≤ list_places frame (n / 5) (get_or a.lists list.at [])) start list.some) in
     record {
       class = class.0;
@@ -129,11 +129,11 @@ free_block a frame some =
 pub block_free : (l : LayoutParts) (class_at : ℕ → Option Class) (a : FreeAreas) (frame : ℕ)
     → AreOrdered l class_at a → IsInFreeBlock a frame → 1 ≤ free_places a frame
 block_free l class_at a frame h b =
-    let here = on_free l class_at a b.class b.order b.first h b.on in
+    let here = on_free l _ a b.class b.order b.first h b.on in
     omega (
       arith,
-      some_list frame b.order b.first (free_list a b.class b.order) b.on b.within,
-      list_places-le a b.class b.order frame (has_order l class_at a b.order h here.low),
+      some_list frame b.order b.first _ b.on b.within,
+      list_places-le a b.class b.order frame (has_order l _ a _ h here.low),
     )
 
 -- a frame is in two places if blocks on two lists have it
@@ -164,8 +164,7 @@ two_lists a class order c o frame has has_o ne =
 -- an aligned block has the frames of one number
 pub in_number : (frame order first : ℕ) → first % 2 ^ order ≡ 0 → IsFrameOf frame order first
     → frame / 2 ^ order ≡ first / 2 ^ order
-in_number frame order first aligned h =
-    quotient frame (2 ^ order) (first / 2 ^ order) (omega (arith, h.low)) (omega (arith, h.high))
+in_number frame order first aligned h = quotient frame _ _ (omega (arith, h.low)) (omega (arith, h.high))
 
 -- and the frames of one number are in the block
 pub number_in : (frame order first : ℕ) → first % 2 ^ order ≡ 0 → frame / 2 ^ order ≡ first / 2 ^ order
@@ -189,19 +188,18 @@ pub buddy_aligned : (first order : ℕ) → first % 2 ^ order ≡ 0 → buddy fi
 buddy_aligned first order aligned = elim (cases_eq (first / 2 ^ order % 2) 0) [
   | inl even ↦
       let is : first ≡ first / 2 ^ order / 2 * 2 * 2 ^ order =
-      multiple first order aligned ∙ ap (λ (n : ℕ). n * 2 ^ order) (half_even (first / 2 ^ order) even) in
+      multiple first order aligned ∙ ap (λ (n : ℕ). n * 2 ^ order) (half_even _ even) in
       let next : first / 2 ^ order / 2 * 2 * 2 ^ order + 2 ^ order
       ≡ (first / 2 ^ order / 2 * 2 + 1) * 2 ^ order =
       grind arith in
-      rw is (rw (buddy_even, next) (multiple_aligned (first / 2 ^ order / 2 * 2 + 1) order))
+      rw is (rw (buddy_even, next) (multiple_aligned _ order))
   | inr odd ↦
       let next : (first / 2 ^ order / 2 * 2 + 1) * 2 ^ order
       ≡ first / 2 ^ order / 2 * 2 * 2 ^ order + 2 ^ order =
       grind arith in
       let is : first ≡ first / 2 ^ order / 2 * 2 * 2 ^ order + 2 ^ order =
-      multiple first order aligned ∙ ap (λ (n : ℕ). n * 2 ^ order) (half_odd (first / 2 ^ order) odd)
-      ∙ next in
-      rw is (rw buddy_odd (multiple_aligned (first / 2 ^ order / 2 * 2) order))
+      multiple first order aligned ∙ ap (λ (n : ℕ). n * 2 ^ order) (half_odd _ odd) ∙ next in
+      rw is (rw buddy_odd (multiple_aligned _ order))
 ]
   where
     half_even : (q : ℕ) → q % 2 ≡ 0 → q ≡ q / 2 * 2
@@ -220,16 +218,15 @@ unjoined : (l : LayoutParts) (class_at : ℕ → Option Class) (a : FreeAreas) (
 unjoined l class_at a class order first h below on other same above =
     let block = h.blocks class order first on in
     let its = h.blocks other.class other.order other.first other.on in
-    let here = on_free l class_at a other.class other.order other.first h other.on in
+    let here = on_free l _ a _ _ _ h other.on in
     elim (cases_eq order other.order) [
       | inl is ↦
           let even : buddy first order % 2 ^ order ≡ 0 = buddy_aligned first order block.aligned in
-          let that : other.first ≡ buddy first order = in_aligned (buddy first order) order other.first even
+          let that : other.first ≡ buddy first order = in_aligned _ order _ even
           (subst (λ (n : ℕ). other.first % 2 ^ n ≡ 0) (sym is) its.aligned)
           (subst (λ (n : ℕ). IsFrameOf (buddy first order) n other.first) (sym is) other.within) in
           let one : class ≡ other.class =
-          same_Some class other.class
-          (sym block.class_agrees ∙ ap class_at (sym same) ∙ its.class_agrees) in
+          same_Some class other.class (rw (← block.class_agrees, ← same, its.class_agrees)) in
           let joined : is_on (buddy first order) (free_list a class order) ≡ true =
           rw (← that, one, is) other.on in
           both_ways (is_on (buddy first order) (free_list a class order))
@@ -237,16 +234,14 @@ unjoined l class_at a class order first h below on other same above =
       | inr ne ↦
           let greater : suc order ≤ other.order = omega arith in
           let one : buddy first order / 2 ^ other.order ≡ first / 2 ^ other.order =
-          same_above (buddy first order) first (suc order) other.order greater
-          (buddy_above first order (suc order) block.aligned (omega arith)) in
+          same_above _ first _ _ greater (buddy_above first order _ block.aligned (omega arith)) in
           let there : IsFrameOf first other.order other.first =
-          number_in first other.order other.first its.aligned
-          (sym one ∙ in_number (buddy first order) other.order other.first its.aligned other.within) in
+          number_in first _ _ its.aligned (sym one ∙ in_number _ _ _ its.aligned other.within) in
           absurd (omega (
             arith,
-            two_lists a class order other.class other.order first (has_order l class_at a order h
-                (omega arith)) (has_order l class_at a other.order h here.low) ne,
-            on-places first order (free_list a class order) on,
+            two_lists a class order other.class other.order first (has_order l _ a order h
+                (omega arith)) (has_order l _ a _ h here.low) ne,
+            on-places first order _ on,
             some_list first other.order other.first (free_list a other.class other.order) other.on there,
             h.few first,
           ))
@@ -264,17 +259,14 @@ orders_from l class_at a pageblock (suc order) h free low class o first on here 
       let there : is_on first (free_list a class order) ≡ true = rw (← same) on in
       let beside : pageblock_of l (buddy first order) ≡ pageblock =
       buddy_above first order l.order (h.blocks class order first there).aligned low ∙ here in
-      let other = free_block a (buddy first order) (free (buddy first order) beside) in
+      let other = free_block a _ (free (buddy first order) beside) in
       let its = h.blocks other.class other.order other.first other.on in
-      let small = (on_free l class_at a other.class other.order other.first h other.on).low in
+      let small = (on_free l _ a _ _ _ h other.on).low in
       let close : pageblock_of l other.first ≡ pageblock =
-      sym (same_above (buddy first order) other.first other.order l.order small
-      (in_number (buddy first order) other.order other.first its.aligned other.within)) ∙ beside in
-      absurd (unjoined l class_at a class order first h (omega arith) there other (close ∙ sym here)
-      (orders_from l class_at a pageblock order h free (omega arith) other.class other.order other.first
-      other.on close))
-  | inr ne ↦
-      omega (arith, orders_from l class_at a pageblock order h free (omega arith) class o first on here)
+      sym (same_above _ _ _ _ small (in_number _ _ _ its.aligned other.within)) ∙ beside in
+      absurd (unjoined l _ a class order first h (omega arith) there other (close ∙ sym here)
+      (orders_from l _ a _ order h free (omega arith) _ _ _ other.on close))
+  | inr ne ↦ omega (arith, orders_from l _ a _ order h free (omega arith) class o first on here)
 ]
 
 -- such a pageblock is one free block of the greatest order
@@ -288,18 +280,14 @@ whole_pageblock l class_at a pageblock class h is free =
     let here : pageblock_of l start ≡ pageblock = shl-shr pageblock l.order in
     let block = free_block a start (free start here) in
     let its = h.blocks block.class block.order block.first block.on in
-    let small = (on_free l class_at a block.class block.order block.first h block.on).low in
+    let small = (on_free l _ a _ _ _ h block.on).low in
     let close : pageblock_of l block.first ≡ pageblock =
-    sym (same_above start block.first block.order l.order small
-    (in_number start block.order block.first its.aligned block.within)) ∙ here in
-    let large : l.order ≤ block.order =
-    orders_from l class_at a pageblock l.order h free (omega arith) block.class block.order block.first
-    block.on close in
+    sym (same_above start _ _ _ small (in_number start _ _ its.aligned block.within)) ∙ here in
+    let large : l.order ≤ block.order = orders_from l _ a _ _ h free (omega arith) _ _ _ block.on close in
     let whole : block.order ≡ l.order = omega arith in
-    let that : block.first ≡ start = in_aligned start l.order block.first (multiple_aligned pageblock l.order)
+    let that : block.first ≡ start = in_aligned start _ _ (multiple_aligned _ _)
     (subst (λ (n : ℕ). block.first % 2 ^ n ≡ 0) whole its.aligned)
     (subst (λ (n : ℕ). IsFrameOf start n block.first) whole block.within) in
-    let one : block.class ≡ class =
-    same_Some block.class class (sym its.class_agrees ∙ ap class_at close ∙ is) in
-    rw (← that) (subst (λ (c : Class). is_on block.first (free_list a c l.order) ≡ true) one
-    (subst (λ (n : ℕ). is_on block.first (free_list a block.class n) ≡ true) whole block.on))
+    let one : block.class ≡ class = same_Some block.class class (rw (← its.class_agrees, close, is)) in
+    rw (← that) (rw (← one) (subst (λ (n : ℕ). is_on block.first (free_list a block.class n) ≡ true) whole
+    block.on))

@@ -1,9 +1,9 @@
 -- Frames of processors' lists, kernel's blocks and pages lie in blocks with a zone, and no list is
 -- longer than there are frames.
-use Rattle.std.proofs.Common.{◌≡◌, ℕ, zero, suc, ◌+◌, ◌*◌, ◌<◌, ◌≤◌, List, [], ◌∷◌, length, get_or, Bool, true, false, Option, Some, None, refl, sym, ◌∙◌, subst, arith, inl, inr, IfSome, ◌==◌, ◌||◌}
+use Rattle.std.proofs.Common.{◌≡◌, ℕ, zero, suc, ◌+◌, ◌*◌, ◌<◌, ◌≤◌, List, [], ◌∷◌, length, get_or, true, false, Option, Some, None, refl, ◌∙◌, subst, arith, inl, inr, IfSome, ◌==◌, ◌||◌}
 use Rattle.std.specs.List.{count_by}
 use Rattle.std.specs.Option.{option_map}
-use Rattle.std.proofs.lemmas.Bool.{cases_lt}
+use Rattle.std.proofs.lemmas.Bool.{cases_lt, false_from_ne_true}
 use Rattle.std.proofs.lemmas.Bool.Decides.{nat_tests}
 use Rattle.std.proofs.lemmas.List.{get_or_past}
 use Rattle.std.proofs.lemmas.List.Sums.{get_or-le-sum_by}
@@ -23,16 +23,15 @@ use Rattle.hp_units.specs.Pages.{frame_at}
 use Rattle.hp_units.specs.Rows.{is_absent_state, is_going_state, is_offline_state, is_online_state}
 use Rattle.hp_units.specs.Placement.{IsKernelAt, IsRowOf, IsWellPlaced, cached_places, is_unplugged, kind_at, list_places, mapped_places, offline_places, row_at, covered}
 use Rattle.hp_laws.specs.Consequences.{IsFrameOf, IsPluggedIn}
-use Rattle.hp_lemmas.proofs.Places.{list_places-cons}
-use Rattle.hp_lemmas.proofs.Geometry.{same_above}
-use Rattle.hp_lemmas.proofs.Lists.{covered-self, list_places-le, on_tail}
+use Rattle.hp_units.proofs.Places.{list_places-cons}
+use Rattle.hp_units.proofs.Geometry.{same_above}
+use Rattle.hp_units.proofs.ListEdits.{covered-self, list_places-le, on_tail}
 use Rattle.hp_laws.proofs.Areas.{has_order}
 use Rattle.hp_laws.proofs.States.{areas_of, block_of-pageblock, in_layout}
 use Rattle.hp_laws.proofs.Drains.{pool_zone, times, times-cons}
 use Rattle.hp_laws.proofs.Tables.{live_row}
-use Rattle.hp_lemmas.proofs.Tables.{mapped_some, table_of}
+use Rattle.hp_units.proofs.Tables.{mapped_some, table_of}
 use Rattle.hp_laws.proofs.ConsequencesBlocks.{in_number, on_head}
-use Rattle.hp_laws.proofs.Lists.{one_if}
 
 -- ---- the zone of a frame's block
 
@@ -47,9 +46,7 @@ pub cached_zone : (l : LayoutParts) (s : Memory) (cpu : ℕ) (pool : Pool) (fram
     → is_on frame (cached_list s.free cpu pool) ≡ true
     → (row_of s.blocks (block_of l frame)).zone ≡ Some (zone_of_pool pool)
 cached_zone l s cpu pool frame p on =
-    row_zone l s.blocks.rows frame (zone_of_pool pool)
-    (pool_zone (row_at l s.blocks.rows (pageblock_of l frame)).zone
-    (kind_at s.free.areas.kinds (pageblock_of l frame)).mobility pool (p.in_order.cached cpu pool frame on))
+    row_zone l _ frame _ (pool_zone _ _ pool (p.in_order.cached cpu pool frame on))
 
 -- a block of the kernel lies in one pageblock
 kernel_at : (l : LayoutParts) (s : Memory) (first order : ℕ) → IsWellPlaced l s → (entry : Option ℕ)
@@ -62,23 +59,23 @@ pub kernel_inside : (l : LayoutParts) (s : Memory) (first order frame : ℕ) →
     → kernel_order s first ≡ Some order → IsFrameOf frame order first
     → pageblock_of l frame ≡ pageblock_of l first
 kernel_inside l s first order frame p e within =
-    let k = kernel_at l s first order p (kernel_order s first) refl e in
-    same_above frame first order l.order k.in_order (in_number frame order first k.aligned within)
+    let k = kernel_at l s first order p _ refl e in
+    same_above frame first order _ k.in_order (in_number frame order first k.aligned within)
 
 -- a frame of the kernel's
 pub kernel_zone : (l : LayoutParts) (s : Memory) (first order frame : ℕ) → IsWellPlaced l s
     → kernel_order s first ≡ Some order → IsFrameOf frame order first
     → (row_of s.blocks (block_of l frame)).zone ≡ Some NormalZone
 kernel_zone l s first order frame p e within =
-    let k = kernel_at l s first order p (kernel_order s first) refl e in
-    row_zone l s.blocks.rows frame NormalZone (rw (kernel_inside l s first order frame p e within) k.normal)
+    let k = kernel_at l s first order p _ refl e in
+    row_zone l _ frame _ (rw (kernel_inside l s first order frame p e within) k.normal)
 
 -- a page's frame is in no offline or absent block
 pub page_plugged : (l : LayoutParts) (s : Memory) (owner page frame : ℕ) → IsWellPlaced l s
     → frame_at s.pages owner page ≡ Some frame → offline_places l s frame ≡ 0
 page_plugged l s owner page frame p e =
     let some : 1 ≤ mapped_places s.pages frame =
-    mapped_some l.owners l.pages s.pages.table owner page frame (table_of l s p.in_order) e in
+    mapped_some _ _ _ owner page frame (table_of l s p.in_order) e in
     omega (arith, p.once frame)
 
 -- a block that is neither offline nor absent is online or going
@@ -91,11 +88,8 @@ plugged_state _ e = refl
 -- the block of a frame that is in no such place
 not_unplugged : (l : LayoutParts) (s : Memory) (frame : ℕ) → offline_places l s frame ≡ 0
     → is_unplugged (row_of s.blocks (block_of l frame)) ≡ false
-not_unplugged l s frame e = by_row (is_unplugged (row_of s.blocks (block_of l frame))) refl e
-  where
-    by_row : (b : Bool) → is_unplugged (row_of s.blocks (block_of l frame)) ≡ b → one_if b ≡ 0 → b ≡ false
-    by_row true is e = absurd (omega arith)
-    by_row false is e = refl
+not_unplugged l s frame e =
+    false_from_ne_true (is_unplugged (row_of s.blocks (block_of l frame))) (λ is. omega (arith, rw is at e))
 
 -- it is plugged in
 pub plugged : (l : LayoutParts) (s : Memory) (frame : ℕ) → IsWellPlaced l s → offline_places l s frame ≡ 0
@@ -103,21 +97,15 @@ pub plugged : (l : LayoutParts) (s : Memory) (frame : ℕ) → IsWellPlaced l s 
 plugged l s frame p e =
     let live = live_row l s frame p.in_order e in
     record {
-      zone = (live.zone, row_zone l s.blocks.rows frame live.zone live.zone_is);
-      state = plugged_state (row_of s.blocks (block_of l frame)).state (not_unplugged l s frame e);
+      zone = (live.zone, row_zone l _ frame _ live.zone_is);
+      state = plugged_state _ (not_unplugged l s frame e);
     }
 
 -- a block with a zone is online or going
 zoned_state : (state : State) (zone : Option Zone) (claim : Option Claim) (z : Zone) → zone ≡ Some z
     → IsRowOf state zone claim → (is_online_state state || is_going_state state) ≡ true
-zoned_state OfflineState zone claim z e h = absurd (no_zone (sym h.0 ∙ e))
-  where
-    no_zone : None ≡ Some z → ⊥
-    no_zone e = cc
-zoned_state AbsentState zone claim z e h = absurd (no_zone (sym h.0 ∙ e))
-  where
-    no_zone : None ≡ Some z → ⊥
-    no_zone e = cc
+zoned_state OfflineState zone claim z e h = cc (e, h.0)
+zoned_state AbsentState zone claim z e h = cc (e, h.0)
 zoned_state _ zone claim z e h = refl
 
 -- a frame whose block has a zone is plugged in
@@ -127,7 +115,7 @@ zone_plugged l s frame zone p e =
     let row : Row = row_of s.blocks (block_of l frame) in
     record {
       zone = (zone, e);
-      state = zoned_state row.state row.zone row.claim zone e (p.in_order.rows (block_of l frame));
+      state = zoned_state _ _ _ zone e (p.in_order.rows (block_of l frame));
     }
 
 -- ---- how long a list is
@@ -212,19 +200,18 @@ free_length l s class order layout p = elim (cases_lt l.order order) [
       let past : free_list s.free.areas class order ≡ [] =
       get_or_past s.free.areas.lists (5 * order + class_index class) []
       (omega (arith, p.in_order.shape.lists)) in
-      subst (λ (xs : List ℕ). length xs ≤ frame_count l) (sym past) (omega arith)
-  | inr low ↦ few_below (frame_count l) (free_list s.free.areas class order)
-      (λ first on.
+      rw past (omega arith)
+  | inr low ↦ few_below _ _ (λ first on.
       let block = p.in_order.blocks class order first on in
       let zone =
-      class_zone (row_at l s.blocks.rows (pageblock_of l first)).zone (λ (z : Zone). class_of_kind z
+      class_zone _ (λ (z : Zone). class_of_kind z
       (kind_at s.free.areas.kinds (pageblock_of l first))) class refl block.class_agrees in
       in_layout l s first zone.0 layout p.in_order.shape.rows zone.1)
       (λ frame. omega (
         arith,
         times_covered frame order (free_list s.free.areas class order),
         list_places-le
-            s.free.areas class order frame (has_order l _ s.free.areas order (areas_of l s p) low),
+            s.free.areas class order frame (has_order l _ _ order (areas_of l s p) low),
         p.once frame,
       ))
 ]
@@ -233,10 +220,8 @@ free_length l s class order layout p = elim (cases_lt l.order order) [
 pub cached_length : (l : LayoutParts) (s : Memory) (cpu : ℕ) (pool : Pool) → IsLayout l → IsWellPlaced l s
     → length (cached_list s.free cpu pool) ≤ frame_count l
 cached_length l s cpu pool layout p =
-    few_below (frame_count l) (cached_list s.free cpu pool)
-    (λ frame on. in_layout l s frame (zone_of_pool pool) layout p.in_order.shape.rows
-    (pool_zone (row_at l s.blocks.rows (pageblock_of l frame)).zone (kind_at s.free.areas.kinds
-    (pageblock_of l frame)).mobility pool (p.in_order.cached cpu pool frame on)))
+    few_below _ _ (λ frame on. in_layout l s frame _ layout p.in_order.shape.rows
+    (pool_zone _ _ pool (p.in_order.cached cpu pool frame on)))
     (λ frame. omega (arith, p.once frame, times_le frame))
   where
     times_le : (frame : ℕ) → times frame (cached_list s.free cpu pool) ≤ cached_places s.free frame
@@ -245,7 +230,6 @@ cached_length l s cpu pool layout p =
           get_or-le-sum_by (λ (frames : List ℕ). count_by (λ other. other == frame) frames) s.free.cached
           (3 * cpu + pool_index pool) [] low
       | inr high ↦
-          let past : cached_list s.free cpu pool ≡ [] =
-          get_or_past s.free.cached (3 * cpu + pool_index pool) [] high in
-          subst (λ (xs : List ℕ). times frame xs ≤ cached_places s.free frame) (sym past) (omega arith)
+          let past : cached_list s.free cpu pool ≡ [] = get_or_past _ _ [] high in
+          rw past (omega arith)
     ]

@@ -1,25 +1,25 @@
 -- The answer to a Commit, and the lowest frame that it names.
-use Rattle.std.proofs.Common.{◌≡◌, ℕ, zero, suc, ◌+◌, ◌*◌, ◌<◌, ◌≤◌, List, [], ◌∷◌, ◌++◌, Bool, true, false, not, cond, Option, Some, None, refl, sym, ◌∙◌, ap, subst, arith, ◌↔◌, inl, inr}
+use Rattle.std.proofs.Common.{◌≡◌, ℕ, zero, suc, ◌+◌, ◌*◌, ◌<◌, ◌≤◌, List, [], ◌∷◌, ◌++◌, Bool, true, false, not, cond, Option, Some, None, refl, ◌∙◌, ap, arith, ◌↔◌, inl, inr}
 use Rattle.std.specs.Prelude.{filter, find, flat_map, is_none, nat_le, unwrap_or}
 use Rattle.std.specs.Bool.{then_some}
 use Rattle.std.specs.List.{list_all, range_with_len}
 use Rattle.std.proofs.lemmas.Bool.{both_ways, lt-leb}
 use Rattle.std.proofs.lemmas.Nat.{mul-le}
 use Rattle.hp_units.specs.LayoutParts.{LayoutParts, IsLayout}
-use Rattle.hp_units.specs.Arithmetic.{all_blocks, block_of, block_size, frames_of_block}
+use Rattle.hp_units.specs.Arithmetic.{block_of, block_size, frames_of_block}
 use Rattle.hp_units.specs.Choices.{first_some}
 use Rattle.hp_units.specs.Memory.{Memory, row_of}
 use Rattle.hp_units.specs.FreeAreas.{is_on}
 use Rattle.hp_units.specs.Refusals.{frame_in_use, is_all_free, is_in_free_block, refusal_of}
-use Rattle.hp_units.specs.Rows.{blocks_of, going_blocks, is_claimed_by, is_going, is_live}
+use Rattle.hp_units.specs.Rows.{going_blocks, is_claimed_by, is_going, is_live}
 use Rattle.hp_units.specs.Step.{answer, step}
 use Rattle.hp_units.specs.Placement.{IsWellPlaced}
 use Rattle.hp_laws.specs.Consequences.{IsFrameInUse, IsLowestInUse}
 use Rattle.hp_laws.proofs.Names.{Commit, Done, NoCpu, NoOp, NotFree, Refused, Reply}
-use Rattle.hp_lemmas.proofs.Lists.{on_cases, on_tail}
+use Rattle.hp_units.proofs.ListEdits.{on_cases, on_tail}
 use Rattle.hp_laws.proofs.Pageblocks.{on_range}
 use Rattle.hp_laws.proofs.ConsequencesBlocks.{on_head}
-use Rattle.hp_laws.proofs.ConsequencesCommits.{all_free-none, claimed_live, found_in_use, going_frame, going_frames, none_in_use, tested_block}
+use Rattle.hp_laws.proofs.ConsequencesCommits.{all_free-none, claimed_live, found_in_use, going_frame, none_in_use, tested_block}
 
 -- ---- the answer to a Commit
 
@@ -48,11 +48,10 @@ commit_reply l s serial cpu op layout p low =
         ∷ then_some (not all) (NotFree (unwrap_or o 0)) ∷ []))).reply
     by_tests true live all o e f g = cc
     by_tests false true true None e f g = refl
-    by_tests false true false None e f g = cc
     by_tests false false all None e f g = refl
-    by_tests false true true (Some frame) e f g = cc
     by_tests false true false (Some frame) e f g = refl
     by_tests false false all (Some frame) e f g = absurd (both_ways false refl (g frame refl))
+    by_tests _ _ _ _ e f g = cc
 
 -- ---- the lowest frame
 
@@ -87,7 +86,7 @@ rising_filter p low (x ∷ xs) h = by_test (p x) h.0 (rising_filter p (x + 1) xs
     by_test : (b : Bool) → low ≤ x → IsRising (x + 1) (filter p xs)
         → IsRising low (cond b (x ∷ filter p xs) (filter p xs))
     by_test true le rest = (le, rest)
-    by_test false le rest = rising_low low (x + 1) (filter p xs) (omega arith) rest
+    by_test false le rest = rising_low low _ _ (omega arith) rest
 
 -- and so do two lists one above the other
 rising_append : (low middle : ℕ) (xs ys : List ℕ) → IsRising low xs
@@ -107,9 +106,8 @@ rising_blocks l low (b ∷ bs) h =
     let size : ℕ = block_size l in
     let le : low * size ≤ b * size = mul-le low size b size h.0 (omega arith) in
     let next : (b + 1) * size ≡ b * size + size = grind arith in
-    rising_append (low * size) ((b + 1) * size) (frames_of_block l b) (flat_map (frames_of_block l) bs)
-    (rising_low (low * size) (b * size) (frames_of_block l b) le (rising_range (b * size) size))
-    (λ x on. omega (arith, next, (on_range x (b * size) size on).high)) (omega (arith, next))
+    rising_append _ _ _ _ (rising_low _ _ _ le (rising_range _ size))
+    (λ x on. omega (arith, next, (on_range x _ size on).high)) (omega (arith, next))
     (rising_blocks l (b + 1) bs h.1)
 
 -- what is found on a rising list is the lowest that passes
@@ -125,10 +123,10 @@ find_lowest p low x y (z ∷ zs) h e on passes =
         let same : z ≡ x = cc in
         elim (on_cases y z zs on) [
           | inl here ↦ omega arith
-          | inr there ↦ omega (arith, rising_on (z + 1) y zs h.1 there)
+          | inr there ↦ omega (arith, rising_on _ y zs h.1 there)
         ]
     by_test false is f later = elim (on_cases y z zs on) [
-      | inl here ↦ absurd (both_ways (p z) is (subst (λ (n : ℕ). p n ≡ true) (sym here) passes))
+      | inl here ↦ absurd (both_ways (p z) is (rw here passes))
       | inr there ↦ later f there
     ]
 
@@ -143,21 +141,17 @@ pub found_lowest : (l : LayoutParts) (s : Memory) (op frame : ℕ) → IsLayout 
 found_lowest l s op frame layout p e = record {
   here = found_in_use l s op frame p e;
   lowest =
-      λ other h. find_lowest (λ (f : ℕ). not (is_in_free_block l s.free.areas f)) (0 * block_size l) frame
-      other (going_frames l s op)
-      (rising_blocks l 0 (going_blocks l s.blocks op)
-      (rising_filter (λ (b : ℕ). is_going (row_of s.blocks b)) 0 (blocks_of l s.blocks op)
-      (rising_filter (λ (b : ℕ). is_claimed_by op (row_of s.blocks b)) 0 (all_blocks l)
-      (rising_range 0 l.blocks))))
-      e
-      (going_frame l s op other layout p h.going) (still_true (is_in_free_block l s.free.areas other)
-      (λ t. h.not_free (tested_block l s.free.areas other t)));
+      λ other h. find_lowest (λ (f : ℕ). not (is_in_free_block l s.free.areas f)) _ frame other _
+      (rising_blocks l 0 _ (rising_filter (λ (b : ℕ). is_going (row_of s.blocks b)) 0 _
+      (rising_filter (λ (b : ℕ). is_claimed_by op (row_of s.blocks b)) 0 _ (rising_range 0 _)))) e
+      (going_frame l s op other layout p h.going) (still_true _
+      (λ t. h.not_free (tested_block l _ other t)));
 }
 
 -- where a frame is in use, one is found
 pub in_use_found : (l : LayoutParts) (s : Memory) (op frame : ℕ) → IsLayout l → IsWellPlaced l s
     → IsFrameInUse l s op frame → (found : ℕ) × (frame_in_use l s op ≡ Some found)
-in_use_found l s op frame layout p h = by_found (frame_in_use l s op) refl
+in_use_found l s op frame layout p h = by_found _ refl
   where
     by_found : (o : Option ℕ) → frame_in_use l s op ≡ o → (found : ℕ) × (frame_in_use l s op ≡ Some found)
     by_found None e = absurd (h.not_free (none_in_use l s op frame layout p e h.going))
@@ -168,7 +162,7 @@ pub lowest_found : (l : LayoutParts) (s : Memory) (op frame : ℕ) → IsLayout 
     → IsLowestInUse l s op frame → frame_in_use l s op ≡ Some frame
 lowest_found l s op frame layout p h =
     let found = in_use_found l s op frame layout p h.here in
-    let least = found_lowest l s op found.0 layout p found.1 in
+    let least = found_lowest l s op _ layout p found.1 in
     let low : found.0 ≤ frame = least.lowest frame h.here in
     let high : frame ≤ found.0 = h.lowest found.0 least.here in
     let same : found.0 ≡ frame = omega arith in
@@ -198,8 +192,8 @@ commit_refused l s serial cpu op frame layout p low =
     let is : IsCommitReply (frame_in_use l s op) (is_live s.blocks op) reply =
     commit_reply l s serial cpu op layout p low in (
       λ e. found_lowest l s op frame layout p
-          (reply_found (frame_in_use l s op) (is_live s.blocks op) reply frame is e),
-      λ h. found_reply (frame_in_use l s op) (is_live s.blocks op) reply frame is
+          (reply_found _ _ reply frame is e),
+      λ h. found_reply _ _ reply frame is
           (lowest_found l s op frame layout p h),
     )
 
@@ -212,23 +206,17 @@ commit_some l s serial cpu op layout p low = (
   λ e. (e.0, ((commit_refused l s serial cpu op e.0 layout p low).0 e.1).here),
   λ h. (let found = in_use_found l s op h.0 layout p h.1 in (
     found.0,
-    (commit_refused l s serial cpu op found.0 layout p low).1
-        (found_lowest l s op found.0 layout p found.1),
+    (commit_refused l s serial cpu op _ layout p low).1
+        (found_lowest l s op _ layout p found.1),
   )),
 )
 
 -- where it is done the operation is live and none is found
 reply_done : (o : Option ℕ) (live : Bool) (reply : Reply) → IsCommitReply o live reply → reply ≡ Done
     → (live ≡ true) × (o ≡ None)
-reply_done (Some found) live reply is e = absurd (no_refusal (sym is ∙ e))
-  where
-    no_refusal : Refused (NotFree found) ≡ Done → ⊥
-    no_refusal e = cc
+reply_done (Some found) live reply is e = cc
 reply_done None true reply is e = (refl, refl)
-reply_done None false reply is e = absurd (no_refusal (sym is ∙ e))
-  where
-    no_refusal : Refused NoOp ≡ Done → ⊥
-    no_refusal e = cc
+reply_done None false reply is e = cc
 
 -- and where these hold it is done
 done_reply : (o : Option ℕ) (live : Bool) (reply : Reply) → IsCommitReply o live reply → live ≡ true
@@ -246,13 +234,10 @@ commit_done l s serial cpu op layout p low =
     let reply : Reply = (step l s serial cpu (Commit op)).reply in
     let is : IsCommitReply (frame_in_use l s op) (is_live s.blocks op) reply =
     commit_reply l s serial cpu op layout p low in (
-      λ e. (let done = reply_done (frame_in_use l s op) (is_live s.blocks op) reply is e in (
+      λ e. (let done = reply_done _ _ reply is e in (
         done.0,
-        λ frame h. (let found = in_use_found l s op frame layout p h in none_some (sym done.1 ∙ found.1)),
+        λ frame h. (let found = in_use_found l s op frame layout p h in cc (done.1, found.1)),
       )),
-      λ h. done_reply (frame_in_use l s op) (is_live s.blocks op) reply is h.0
+      λ h. done_reply _ _ reply is h.0
           (λ frame e. h.1 frame (found_in_use l s op frame p e)),
     )
-  where
-    none_some : {found : ℕ} → None ≡ Some found → ⊥
-    none_some e = cc

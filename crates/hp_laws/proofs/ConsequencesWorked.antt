@@ -62,7 +62,7 @@ wrong_pool = (let s : Memory = boot_memory small in with_free s (with_cached_lis
 
 wrong_pool_excluded : IsWellPlaced small wrong_pool → ⊥
 unfolding everything
-wrong_pool_excluded p = two_zones (cached_zone small wrong_pool 0 NuPool 8 p refl)
+wrong_pool_excluded p = two_zones (cached_zone small _ 0 NuPool 8 p refl)
 
 -- a kernel's block in zone Movable
 abbrev wrong_kernel : Memory
@@ -71,7 +71,7 @@ wrong_kernel = with_kernel_order (boot_memory small) 8 (Some 1)
 wrong_kernel_excluded : IsWellPlaced small wrong_kernel → ⊥
 unfolding everything
 wrong_kernel_excluded p =
-    two_zones (kernel_zone small wrong_kernel 8 1 9 p refl (record { low = omega arith; high = omega arith }))
+    two_zones (kernel_zone small _ 8 1 9 p refl (record { low = omega arith; high = omega arith }))
 
 -- a page at a frame of an offline block
 abbrev wrong_page : Memory
@@ -79,8 +79,7 @@ wrong_page = (let s : Memory = boot_memory small in with_pages s (map_page s.pag
 
 wrong_page_excluded : IsWellPlaced small wrong_page → ⊥
 unfolding everything
-wrong_page_excluded p =
-    no_zone (plugged small wrong_page 12 p (page_plugged small wrong_page 0 0 12 p refl)).zone.1
+wrong_page_excluded p = no_zone (plugged small wrong_page 12 p (page_plugged small _ 0 0 12 p refl)).zone.1
 
 -- a list with more blocks than there are frames
 abbrev long_list : Memory
@@ -91,8 +90,7 @@ long_list =
 
 long_list_excluded : IsWellPlaced small long_list → ⊥
 unfolding everything
-long_list_excluded p =
-    (let short : 17 ≤ 16 = free_length small long_list Nm 0 small_layout p in absurd (omega arith))
+long_list_excluded p = (let short : 17 ≤ 16 = free_length small _ Nm 0 small_layout p in absurd (omega arith))
 
 -- a going block of which each frame is free, in two halves that are not joined: a Commit would name
 -- no frame
@@ -118,4 +116,4 @@ not_all_free = refl
 
 in_halves_excluded : IsWellPlaced small in_halves → ⊥
 unfolding everything
-in_halves_excluded p = (let whole : false ≡ true = all_free-none small in_halves 1 small_layout p in cc)
+in_halves_excluded p = (let whole : false ≡ true = all_free-none small _ 1 small_layout p in cc)

@@ -18,19 +18,18 @@ use Rattle.hp_units.specs.declared.rows.Mobility.TheVariants.{Unmovable, Movable
 use Rattle.hp_units.specs.LayoutParts.{LayoutParts}
 use Rattle.hp_units.specs.Arithmetic.{pageblock_of}
 use Rattle.hp_units.specs.Memory.{FreeAreas, Memory, cached_list, with_cached_list, pool_index, pool_of, zone_of_pool, class_of_pool}
-use Rattle.hp_units.specs.FreeAreas.{Taken, is_on, give_block, take_block, class_of, class_of_kind}
+use Rattle.hp_units.specs.FreeAreas.{Taken, is_on, give_block, class_of, class_of_kind}
 use Rattle.hp_units.specs.ProcessorLists.{Refill, with_first, take_frames, give_all, drain_pool, drain_lists}
-use Rattle.hp_units.specs.Rows.{with_areas}
 use Rattle.hp_units.specs.Step.{with_free}
-use Rattle.hp_units.specs.Placement.{free_places, cached_places, IsInOrder, IsWellPlaced, class_at, pool_at, row_at, kind_at, covered}
-use Rattle.hp_lemmas.proofs.Joins.{give_block-places}
-use Rattle.hp_lemmas.proofs.Geometry.{aligned_ancestor}
-use Rattle.hp_lemmas.proofs.Lists.{on_tail, on_cases}
-use Rattle.hp_lemmas.proofs.Pools.{pool_index-lt}
+use Rattle.hp_units.specs.Placement.{free_places, cached_places, IsInOrder, IsWellPlaced, class_at, pool_at, kind_at, covered}
+use Rattle.hp_units.proofs.Joins.{give_block-places}
+use Rattle.hp_units.proofs.Geometry.{aligned_ancestor}
+use Rattle.hp_units.proofs.ListEdits.{on_tail, on_cases}
+use Rattle.hp_units.proofs.Pools.{pool_index-lt}
 use Rattle.hp_laws.proofs.Ordered.{AreOrdered}
 use Rattle.hp_laws.proofs.Takes.{TakesOrdered, take_block-ordered}
 use Rattle.hp_laws.proofs.Gives.{give_block-ordered, give_block-kinds}
-use Rattle.hp_laws.proofs.States.{areas_of, areas-in_order}
+use Rattle.hp_laws.proofs.States.{areas_of, areas-in_order, reshaped}
 
 -- how often a frame is on a list
 abbrev pub times : ℕ → List ℕ → ℕ
@@ -71,10 +70,9 @@ give_all-ordered l class_at a zone (x ∷ xs) h agrees room =
     λ frame.
     give_block-places l a zone x 0 frame h.lists (omega arith) (aligned_ancestor x 0 (single x)) h.few in
     let ordered =
-    give_block-ordered l class_at a zone x 0 (omega arith) (single x)
+    give_block-ordered l _ a zone x 0 (omega arith) (single x)
     (agrees x (or_left (x == x) (is_on x xs) (eq-eqb x x refl))) here h in
-    let rest = give_all-ordered l class_at b zone xs ordered
-    (λ frame on. agrees frame (on_tail frame x xs on)
+    let rest = give_all-ordered l _ b zone xs ordered (λ frame on. agrees frame (on_tail frame x xs on)
     ∙ ap (λ (ks : List Kind). Some (class_of_kind zone (kind_at ks (pageblock_of l frame)))) (sym same))
     (λ frame. omega (arith, room frame, times-cons frame x xs, given frame)) in
     record {
@@ -100,8 +98,7 @@ unfolding take_frames
 take_frames-ordered l class_at pool zero a h =
     record { ordered = h; places = λ frame. omega arith; classes = λ frame on. cc; kinds = refl }
 take_frames-ordered l class_at pool (suc count) a h =
-    after (take_block l a (class_of_pool pool) 0) (take_block-ordered l class_at a (class_of_pool pool) 0 h)
-    (take_frames l pool count) (λ b k. take_frames-ordered l class_at pool count b k)
+    after _ (take_block-ordered l _ a _ 0 h) (take_frames l pool count) (take_frames-ordered l _ pool count)
   where
     after : (o : Option Taken) → IfSome o (TakesOrdered l class_at a (class_of_pool pool) 0)
         → (f : FreeAreas → Refill)
@@ -117,7 +114,7 @@ take_frames-ordered l class_at pool (suc count) a h =
           places =
               λ frame. omega
               (arith, rest.places frame, t.places frame, times-cons frame taken.frame (f taken.areas).frames);
-          classes = λ frame on. elim (on_cases frame taken.frame (f taken.areas).frames on) [
+          classes = λ frame on. elim (on_cases frame _ _ on) [
             | inl same ↦ rw (← same) t.block.class_agrees
             | inr there ↦ rest.classes frame there
           ];
@@ -134,8 +131,7 @@ pool_from (suc (suc n)) = MmPool
 pool_from-index : (pool : Pool) → pool_from (pool_index pool) ≡ pool
 unfolding pool_from
 pool_from-index NuPool = refl
-pool_from-index NmPool = refl
-pool_from-index MmPool = refl
+pool_from-index _ = refl
 
 same_pool : (cpu other : ℕ) (pool p : Pool) → 3 * other + pool_index p ≡ 3 * cpu + pool_index pool → p ≡ pool
 same_pool cpu other pool p e =
@@ -154,17 +150,9 @@ cached-in_order l s cpu pool frames h low agrees =
     let short : 3 * cpu + pool_index pool < length s.free.cached = omega (arith, h.shape.cached) in
     record {
       shape =
-          record {
-            lists = h.shape.lists;
-            kinds = h.shape.kinds;
-            cached = length-set s.free.cached (3 * cpu + pool_index pool) frames ∙ h.shape.cached;
-            owners = h.shape.owners;
-            pages = h.shape.pages;
-            content_owners = h.shape.content_owners;
-            content_pages = h.shape.content_pages;
-            kernel = h.shape.kernel;
-            rows = h.shape.rows;
-          };
+          reshaped l s _ _ _ h.shape h.shape.lists h.shape.kinds
+          (length-set s.free.cached (3 * cpu + pool_index pool) frames ∙ h.shape.cached) h.shape.kernel
+          h.shape.rows;
       blocks = h.blocks;
       joined = h.joined;
       cached = λ other p frame. elim (cases_eq (3 * other + pool_index p) (3 * cpu + pool_index pool)) [
@@ -172,8 +160,7 @@ cached-in_order l s cpu pool frames h low agrees =
             let is : get_or (set s.free.cached (3 * cpu + pool_index pool) frames) (3 * other + pool_index p)
             [] ≡ frames =
             rw same (get_or-set_same s.free.cached (3 * cpu + pool_index pool) frames [] short) in
-            agrees frame (subst (λ (xs : List ℕ). is_on frame xs ≡ true) is on)
-            ∙ ap (λ (q : Pool). Some q) (sym (same_pool cpu other pool p same))
+            agrees frame (rw (← is) on) ∙ ap (λ (q : Pool). Some q) (sym (same_pool cpu other pool p same))
         | inr ne ↦ λ on. h.cached other p frame
             (subst (λ (xs : List ℕ). is_on frame xs ≡ true) (get_or-set_other s.free.cached
             (3 * cpu + pool_index pool) (3 * other + pool_index p) frames [] ne) on)
@@ -209,14 +196,11 @@ drain_pool-placed l s cpu pool low p =
     ) in
     let given =
     give_all-ordered l (class_at l s.free.areas.kinds s.blocks.rows) s.free.areas (zone_of_pool pool) frames
-    (areas_of l s p)
-    (λ frame on. rw (pool_zone (row_at l s.blocks.rows (pageblock_of l frame)).zone
-    (kind_at s.free.areas.kinds (pageblock_of l frame)).mobility pool (p.in_order.cached cpu pool frame on)))
+    (areas_of l s p) (λ frame on. rw (pool_zone _ _ pool (p.in_order.cached cpu pool frame on)))
     (λ frame. omega (arith, left frame, p.once frame)) in
     record {
       in_order =
-          cached-in_order l (with_areas s (give_all l s.free.areas (zone_of_pool pool) frames)) cpu pool []
-          (areas-in_order l s (give_all l s.free.areas (zone_of_pool pool) frames) p.in_order given.ordered
+          cached-in_order l _ cpu pool [] (areas-in_order l s _ p.in_order given.ordered
           given.kinds) low (λ frame on. cc);
       once = λ frame. omega (arith, p.once frame, given.places frame, left frame);
     }
@@ -226,5 +210,4 @@ pub drain_lists-placed : (l : LayoutParts) (s : Memory) (cpu : ℕ) → cpu < l.
 unfolding drain_lists
 drain_lists-placed l s cpu low p =
     let a = drain_pool-placed l s cpu NuPool low p in
-    drain_pool-placed l (with_free s (drain_pool l cpu (drain_pool l cpu s.free NuPool) NmPool)) cpu MmPool
-    low (drain_pool-placed l (with_free s (drain_pool l cpu s.free NuPool)) cpu NmPool low a)
+    drain_pool-placed l _ cpu MmPool low (drain_pool-placed l _ cpu NmPool low a)

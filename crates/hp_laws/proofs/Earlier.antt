@@ -18,13 +18,9 @@ numbered_more : (before : ℕ) (g : List Record) (r : Record) → r.serial ≡ b
     → Numbered before (before + length (g ++ r ∷ [])) (net_of (g ++ r ∷ []))
 numbered_more before g r is ok =
     rw (net-push g r, length_push g r)
-    (elim (net_cases before (before + length g) (net_of g) r ok) [
-      | inl cut ↦
-          rw cut.2 (numbered_take before (before + length g) (before + (length g + 1)) cut.0 (net_of g)
-          (omega arith) ok)
-      | inr adds ↦
-          rw adds (numbered_push before (before + length g) (before + (length g + 1)) (net_of g) r
-          (omega arith) (omega arith) (omega (arith, is)) ok)
+    (elim (net_cases before _ _ r ok) [
+      | inl cut ↦ rw cut.2 (numbered_take before _ _ cut.0 _ (omega arith) ok)
+      | inr adds ↦ rw adds (numbered_push before _ _ _ r (omega arith) (omega arith) (omega (arith, is)) ok)
     ])
 
 -- the net of a legal history is numbered, from its base up to its last record
@@ -33,7 +29,7 @@ pub numbered_net : (l : LayoutParts) (base : Memory) (before : ℕ) (h : List Re
 unfolding net_of
 numbered_net l base before h legal =
     legal_all l base before (λ g. Numbered before (before + length g) (net_of g))
-    (numbered_none before (before + 0)) (λ g r f ok. numbered_more before g r f.serial ok) h legal
+    (numbered_none before _) (λ g r f ok. numbered_more before g r f.serial ok) h legal
 
 -- each step stands in the history, and what is before it in the net is the net of what was before
 -- it in the history
@@ -53,15 +49,15 @@ rooted_take : (before k : ℕ) (h n : List Record) (r : Record) → Rooted befor
     → Rooted before (h ++ r ∷ []) (take k n)
 rooted_take before k h n r ok = record {
   over = λ i x e. ok.over i x (get_take k n x i e).1;
-  stands = λ i x e. stand i x e;
-  comes = λ i x e. come i x e;
+  stands = stand;
+  comes = come;
 }
   where
     stand : (i : ℕ) (x : Record) → slice_get (take k n) i ≡ Some x
         → slice_get (h ++ r ∷ []) (x.serial - before - 1) ≡ Some x
     stand i x e =
         let old = ok.stands i x (get_take k n x i e).1 in
-        get_left h (r ∷ []) (x.serial - before - 1) (slice_get_within h (x.serial - before - 1) x old) ∙ old
+        get_left h _ _ (slice_get_within h (x.serial - before - 1) x old) ∙ old
 
     come : (i : ℕ) (x : Record) → slice_get (take k n) i ≡ Some x
         → take i (take k n) ≡ net_of (take (x.serial - before - 1) (h ++ r ∷ []))
@@ -78,10 +74,10 @@ rooted_push : (before : ℕ) (h : List Record) (r : Record) → r.serial ≡ bef
     → Rooted before h (net_of h) → Rooted before (h ++ r ∷ []) (net_of h ++ r ∷ [])
 rooted_push before h r is ok = record {
   over =
-      λ i x e. elim (get_push_cases (net_of h) r x i e)
+      λ i x e. elim (get_push_cases _ r x i e)
       [ inl at ↦ ok.over i x at | inr at ↦ omega (arith, ap (λ (y : Record). y.serial) at.1) ];
-  stands = λ i x e. stand i x (get_push_cases (net_of h) r x i e);
-  comes = λ i x e. come i x (get_push_cases (net_of h) r x i e);
+  stands = λ i x e. stand i x (get_push_cases _ r x i e);
+  comes = λ i x e. come i x (get_push_cases _ r x i e);
 }
   where
     last : (x : Record) → r ≡ x → x.serial - before - 1 ≡ length h
@@ -91,8 +87,8 @@ rooted_push before h r is ok = record {
         → slice_get (h ++ r ∷ []) (x.serial - before - 1) ≡ Some x
     stand i x (inl at) =
         let old = ok.stands i x at in
-        get_left h (r ∷ []) (x.serial - before - 1) (slice_get_within h (x.serial - before - 1) x old) ∙ old
-    stand i x (inr at) = rw (last x at.1) (get_end h r ∙ ap Some at.1)
+        get_left h _ _ (slice_get_within h (x.serial - before - 1) x old) ∙ old
+    stand i x (inr at) = rw (last x at.1) (rw (get_end h r, at.1))
 
     come : (i : ℕ) (x : Record) → ((slice_get (net_of h) i ≡ Some x) ⊎ ((i ≡ length (net_of h)) × (r ≡ x)))
         → take i (net_of h ++ r ∷ []) ≡ net_of (take (x.serial - before - 1) (h ++ r ∷ []))
@@ -106,7 +102,7 @@ rooted_push before h r is ok = record {
         let le : i ≤ length (net_of h) = omega (arith, at.0) in
         rw (last x at.1)
         (rw (take-append-le i (net_of h) (r ∷ []) le, take_all i (net_of h) (omega (arith, at.0))) (ap net_of
-        (sym (take-append-le (length h) h (r ∷ []) (omega arith) ∙ take_all (length h) h (omega arith)))))
+        (sym (take-append-le (length h) h (r ∷ []) (omega arith) ∙ take_all _ h (omega arith)))))
 
 -- the net of a legal history is rooted in it
 pub rooted_net : (l : LayoutParts) (base : Memory) (before : ℕ) (h : List Record) → IsLegal l base before h
@@ -114,7 +110,7 @@ pub rooted_net : (l : LayoutParts) (base : Memory) (before : ℕ) (h : List Reco
 unfolding net_of
 rooted_net l base before h legal =
     (legal_all l base before (λ g. Numbered before (before + length g) (net_of g)
-    × Rooted before g (net_of g)) (numbered_none before (before + 0), rooted_none before [])
+    × Rooted before g (net_of g)) (numbered_none before _, rooted_none before [])
     (λ g r f ok. (numbered_more before g r f.serial ok.0, more g r f.serial ok)) h legal).1
   where
     more : (g : List Record) (r : Record) → r.serial ≡ before + length g + 1
@@ -122,8 +118,8 @@ rooted_net l base before h legal =
         → Rooted before (g ++ r ∷ []) (net_of (g ++ r ∷ []))
     more g r is ok =
         rw (net-push g r)
-        (elim (net_cases before (before + length g) (net_of g) r ok.0) [
-          | inl cut ↦ rw cut.2 (rooted_take before cut.0 g (net_of g) r ok.1)
+        (elim (net_cases before _ _ r ok.0) [
+          | inl cut ↦ rw cut.2 (rooted_take before cut.0 g _ r ok.1)
           | inr adds ↦ rw adds (rooted_push before g r is ok.1)
         ])
 
@@ -143,7 +139,7 @@ each_prefix before last n (suc k) le ok within =
       q.0.serial,
       omega (arith, ok.over k q.0 q.1),
       omega (arith, ok.under k q.0 q.1),
-      steps_until_at q.0.serial n (suc k) within (λ i r lt e. low i r q lt e)
+      steps_until_at _ n (suc k) within (λ i r lt e. low i r q lt e)
           (λ i r ge e. ok.rising k i q.0 r (omega arith) q.1 e),
     )
   where
@@ -153,6 +149,6 @@ each_prefix before last n (suc k) le ok within =
         elim (cases_lt i k) [
           | inl less ↦ omega (arith, ok.rising i k r q.0 less e q.1)
           | inr ge ↦ (let same : i ≡ k = omega arith in
-              let is : Some r ≡ Some q.0 = sym e ∙ (ap (λ j. slice_get n j) same ∙ q.1) in
+              let is : Some r ≡ Some q.0 = sym e ∙ (ap (slice_get n) same ∙ q.1) in
               omega (arith, ap (λ (y : Record). y.serial) (same_Some r q.0 is)))
         ]

@@ -1,23 +1,20 @@
 -- Each step of a well placed state leads to one, and so does each history.
-use Rattle.std.proofs.Common.{◌≡◌, ℕ, ◌/◌, ◌<◌, ◌≤◌, List, [], ◌∷◌, Bool, true, false, Option, Some, None, refl, ap, arith, ◌||◌}
+use Rattle.std.proofs.Common.{◌≡◌, ℕ, ◌/◌, ◌<◌, ◌≤◌, List, [], ◌∷◌, Bool, true, false, Option, Some, None, refl, arith}
 use Rattle.std.specs.Prelude.{is_some, nat_le, nat_lt}
 use Rattle.std.specs.Bool.{then_some}
-use Rattle.std.proofs.lemmas.Bool.{leb-false, not-false, or_left}
+use Rattle.std.proofs.lemmas.Bool.{leb-false, not-false, or_left, or_right, ltb-false}
 use Rattle.std.proofs.lemmas.List.{get_or-set_same}
 use Rattle.hp_units.specs.declared.rows.Auto.{Auto}
 use Rattle.hp_units.specs.declared.rows.Auto.TheVariants.{Offline as OfflineAuto, OnlineMovable as MovableAuto}
 use Rattle.hp_units.specs.declared.rows.State.TheVariants.{Absent as AbsentState}
-use Rattle.hp_units.specs.declared.rows.Zone.TheVariants.{Normal as NormalZone, Movable as MovableZone}
-use Rattle.hp_units.specs.declared.rows.Row.{Row}
 use Rattle.hp_units.specs.declared.events.Event.{Event}
 use Rattle.hp_laws.proofs.Names.{Record, Refusal, NoCpu, KernelAlloc, KernelFree, Map, Unmap, Write, Drain, Online, Begin, DrainFor, Migrate, Commit, Cancel, Probe, Remove, SetAuto}
 use Rattle.hp_laws.proofs.Claims.{begin-placed, release-placed}
 use Rattle.hp_laws.proofs.Commits.{commit-placed}
 use Rattle.hp_laws.proofs.Migrations.{migrate-placed}
 use Rattle.hp_laws.proofs.PageSteps.{kernel_alloc-placed, kernel_free-placed, map-placed, unmap-placed, write-placed}
-use Rattle.hp_units.specs.History.{net_of, run, value_of}
+use Rattle.hp_units.specs.History.{run, value_of}
 use Rattle.hp_units.specs.Pages.{frame_at}
-use Rattle.std.proofs.lemmas.Bool.Decides.{nat_tests}
 use Rattle.hp_units.specs.LayoutParts.{LayoutParts, IsLayout}
 use Rattle.hp_units.specs.Arithmetic.{block_bytes}
 use Rattle.hp_units.specs.Choices.{first_some}
@@ -37,22 +34,14 @@ then_none true x e = cc
 then_none false x e = refl
 
 pub below : {A : Type 0} (n m : ℕ) (x : A) → then_some (nat_le n m) x ≡ None → m < n
-below n m x e = leb-false n m (then_none (nat_le n m) x e)
-
-absent_unplugged : (row : Row) → is_absent row ≡ true → is_unplugged row ≡ true
-absent_unplugged row e = or_true (is_offline row) (is_absent row) e
-  where
-    or_true : (a b : Bool) → b ≡ true → (a || b) ≡ true
-    or_true true b h = refl
-    or_true false b h = h
+below n m x e = leb-false n m (then_none _ x e)
 
 auto-placed : (l : LayoutParts) (auto : Auto) (s : Memory) (block : ℕ) → IsLayout l → IsWellPlaced l s
     → is_unplugged (row_of s.blocks block) ≡ true → block < l.blocks
     → IsWellPlaced l (auto_online l auto s block)
 auto-placed l OfflineAuto s block layout p off low = p
-auto-placed l MovableAuto s block layout p off low =
-    online_block-placed l MovableZone s block layout p off low
-auto-placed l _ s block layout p off low = online_block-placed l NormalZone s block layout p off low
+auto-placed l MovableAuto s block layout p off low = online_block-placed l _ s block layout p off low
+auto-placed l _ s block layout p off low = online_block-placed l _ s block layout p off low
 
 pub probe-placed : (l : LayoutParts) (s : Memory) (block : ℕ) → IsLayout l → IsWellPlaced l s
     → is_unplugged (row_of s.blocks block) ≡ true → block < l.blocks
@@ -60,14 +49,11 @@ pub probe-placed : (l : LayoutParts) (s : Memory) (block : ℕ) → IsLayout l �
 probe-placed l s block layout p off low =
     let there : row_of (with_block_row s block offline_row).blocks block ≡ offline_row =
     get_or-set_same s.blocks.rows block offline_row offline_row (omega (arith, p.in_order.shape.rows)) in
-    auto-placed l s.blocks.auto (with_block_row s block offline_row) block layout
-    (unplugged-placed l s block offline_row p off low (refl, refl) refl refl) (ap is_unplugged there) low
+    auto-placed l _ _ block layout
+    (unplugged-placed l s block _ p off low (refl, refl) refl refl) (rw there) low
 
 at_most : {A : Type 0} (n m : ℕ) (x : A) → then_some (nat_lt n m) x ≡ None → m ≤ n
-at_most n m x e = not_below n m (then_none (nat_lt n m) x e)
-  where
-    not_below : (n m : ℕ) → nat_lt n m ≡ false → m ≤ n
-    not_below n m e = grind (arith, nat_tests)
+at_most n m x e = ltb-false n m (then_none _ x e)
 
 pub not_there : {X : Type 0} (o : Option X) → is_some o ≡ false → o ≡ None
 not_there None e = refl
@@ -109,7 +95,7 @@ perform-placed l s serial cpu (Cancel op) layout p low e = release-placed l s op
 perform-placed l s serial cpu (Probe address) layout p low e =
     let none = all_none (event_refusals l s cpu (Probe address)) e in
     probe-placed l s (address / block_bytes l) layout p
-    (absent_unplugged (row_of s.blocks (address / block_bytes l)) (not-false _ (then_none _ _ none.1.1.0)))
+    (or_right _ _ (not-false _ (then_none _ _ none.1.1.0)))
     (below l.blocks (address / block_bytes l) _ none.1.0)
 perform-placed l s serial cpu (Remove block) layout p low e =
     let none = all_none (event_refusals l s cpu (Remove block)) e in
@@ -133,8 +119,7 @@ answer-placed l s serial cpu event None layout p e =
 pub step-placed : (l : LayoutParts) (s : Memory) (serial cpu : ℕ) (event : Event) → IsLayout l
     → IsWellPlaced l s → IsWellPlaced l (step l s serial cpu event).memory
 unfolding step
-step-placed l s serial cpu event layout p =
-    answer-placed l s serial cpu event (refusal_of l s cpu event) layout p refl
+step-placed l s serial cpu event layout p = answer-placed l s serial cpu event _ layout p refl
 
 -- and so do steps one after another, and each history
 pub run-placed : (l : LayoutParts) (s : Memory) (steps : List Record) → IsLayout l → IsWellPlaced l s
@@ -148,4 +133,4 @@ run-placed l s (r ∷ rs) layout p =
 pub value-placed : (l : LayoutParts) (base : Memory) (history : List Record) → IsLayout l
     → IsWellPlaced l base → IsWellPlaced l (value_of l base history)
 unfolding value_of
-value-placed l base history layout p = run-placed l base (net_of history) layout p
+value-placed l base history layout p = run-placed l base _ layout p

@@ -1,5 +1,5 @@
 -- Bad states and bad steps that the laws exclude, computed.
-use Rattle.std.proofs.Common.{◌≡◌, ◌≢◌, ℕ, ◌+◌, List, [], ◌∷◌, ◌++◌, length, Bool, true, false, Option, Some, None, refl, sym, ◌∙◌, ap, arith, ◌==◌}
+use Rattle.std.proofs.Common.{◌≡◌, ◌≢◌, ℕ, ◌+◌, List, [], ◌∷◌, ◌++◌, length, Bool, true, false, Option, Some, None, refl, sym, ◌∙◌, arith, ◌==◌}
 use Rattle.std.specs.List.{list_all}
 use Rattle.hp_units.specs.declared.rows.Class.TheVariants.{Nm}
 use Rattle.hp_units.specs.declared.rows.Mobility.TheVariants.{Unmovable, Movable}
@@ -105,8 +105,7 @@ with_call earlier call = earlier ++ record_of earlier call.0 call.1 call.2 ∷ [
 wrong_reply : (h : List Record) (cpu : ℕ) (event : Event) (reply right : Reply)
     → reply_of small booted 0 h cpu event ≡ right → reply ≢ right
     → IsLegal small booted 0 (h ++ record_of h cpu event reply ∷ []) → ⊥
-wrong_reply h cpu event reply right is ne legal =
-    ne ((last_follows small booted 0 h (record_of h cpu event reply) legal).reply ∙ is)
+wrong_reply h cpu event reply right is ne legal = ne ((last_follows small booted 0 h _ legal).reply ∙ is)
 
 -- ---- the frames that are handed out
 
@@ -136,7 +135,7 @@ moved_out = refl
 
 -- a migration to another frame of the block that is going
 moved_within : IsLegal small booted 0 (leaving ++ record_of leaving 0 (Migrate 2) (Moved 8 10) ∷ []) → ⊥
-moved_within = wrong_reply leaving 0 (Migrate 2) (Moved 8 10) (Moved 8 0) moved_out (λ e. cc)
+moved_within = wrong_reply _ 0 _ _ _ moved_out (λ e. cc)
 
 -- ---- the contents of pages
 
@@ -156,9 +155,7 @@ moved_contents = refl
 -- a migration that does not take the words along
 words_lost : (s : Memory) → s.pages.contents ≡ contents_of_net small booted.pages.contents (net_of migrated)
     → entry_of s.pages.contents 0 0 ≡ Some (0 ∷ 0 ∷ []) → ⊥
-words_lost s same zeros =
-    two_contents (entry_of s.pages.contents 0 0) zeros
-    (ap (λ (c : List (List (Option (List ℕ)))). entry_of c 0 0) same ∙ moved_contents)
+words_lost s same zeros = two_contents _ zeros (rw (same, moved_contents))
   where
     two_contents : (o : Option (List ℕ)) → o ≡ Some (0 ∷ 0 ∷ []) → o ≡ Some (0 ∷ 5 ∷ []) → ⊥
     two_contents o e f = cc
@@ -188,7 +185,7 @@ restored_page = refl
 
 -- a restoring Cancel that leaves the page where its migration put it
 cancel_excluded : frame_at (value_of small booted restored).pages 0 0 ≡ Some 0 → ⊥
-cancel_excluded stayed = two_frames (frame_at (value_of small booted restored).pages 0 0) stayed restored_page
+cancel_excluded stayed = two_frames _ stayed restored_page
   where
     two_frames : (o : Option ℕ) → o ≡ Some 0 → o ≡ Some 8 → ⊥
     two_frames o e f = cc
@@ -209,13 +206,13 @@ half =
 
 half_excluded : RowsAre half three (λ item. wished_row item.wish) → ⊥
 unfolding everything
-half_excluded rows = still_going (row_of half.blocks 2) refl rows.1.0
+half_excluded rows = still_going _ refl rows.1.0
   where
     two_states : GoingState ≡ OfflineState → ⊥
     two_states e = cc
 
     still_going : (row : Row) → row.state ≡ GoingState → row ≡ offline_row → ⊥
-    still_going row e f = two_states (sym e ∙ ap (λ (r : Row). r.state) f)
+    still_going row e f = two_states (rw (← e, f))
 
 abbrev drained : List Record
 drained =
@@ -230,4 +227,4 @@ commit_done = refl
 -- same
 refused_commit : IsLegal small booted 0 (drained ++ record_of drained 0 (Commit 2) (Refused (NotFree 9)) ∷ [])
     → ⊥
-refused_commit = wrong_reply drained 0 (Commit 2) (Refused (NotFree 9)) Done commit_done (λ e. cc)
+refused_commit = wrong_reply _ 0 _ _ Done commit_done (λ e. cc)

@@ -2,12 +2,12 @@
 use Rattle.std.proofs.Common.{◌≡◌, ℕ, ◌≤◌, true, Option, Some, None, IfSome}
 use Rattle.hp_units.specs.declared.rows.Pool.{Pool}
 use Rattle.hp_units.specs.LayoutParts.{LayoutParts, IsLayout}
-use Rattle.hp_units.specs.Arithmetic.{IsFrame, pageblock_of}
+use Rattle.hp_units.specs.Arithmetic.{IsFrame}
 use Rattle.hp_units.specs.InLayout.{IsMemoryOf}
-use Rattle.hp_units.specs.Memory.{Memory, cached_list, kernel_order}
+use Rattle.hp_units.specs.Memory.{Memory, cached_list}
 use Rattle.hp_units.specs.FreeAreas.{is_on}
-use Rattle.hp_units.specs.Placement.{IsKernelAt, IsWellPlaced, kind_at, row_at}
-use Rattle.hp_lemmas.proofs.Placed.{free-within, pages_fit}
+use Rattle.hp_units.specs.Placement.{IsKernelAt, IsWellPlaced}
+use Rattle.hp_units.proofs.Placed.{free-within, pages_fit}
 use Rattle.hp_laws.proofs.States.{in_layout}
 use Rattle.hp_laws.proofs.Drains.{pool_zone}
 
@@ -15,9 +15,7 @@ use Rattle.hp_laws.proofs.Drains.{pool_zone}
 cached_fits : (l : LayoutParts) (s : Memory) (cpu : ℕ) (pool : Pool) (frame : ℕ) → IsLayout l
     → IsWellPlaced l s → is_on frame (cached_list s.free cpu pool) ≡ true → IsFrame l frame
 cached_fits l s cpu pool frame layout p on =
-    let zone =
-    pool_zone (row_at l s.blocks.rows (pageblock_of l frame)).zone (kind_at s.free.areas.kinds
-    (pageblock_of l frame)).mobility pool (p.in_order.cached cpu pool frame on) in
+    let zone = pool_zone _ _ pool (p.in_order.cached cpu pool frame on) in
     in_layout l s frame _ layout p.in_order.shape.rows zone
 
 -- the order of a kernel's block
@@ -43,7 +41,7 @@ placed-fits l s layout p = record {
   kernel =
       record {
         frames = p.in_order.shape.kernel;
-        orders = λ first. order_fits l s first (kernel_order s first) (p.in_order.kernel first);
+        orders = λ first. order_fits l s first _ (p.in_order.kernel first);
       };
   blocks = record { rows = p.in_order.shape.rows };
 }

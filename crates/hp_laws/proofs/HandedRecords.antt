@@ -1,5 +1,5 @@
 -- Where the frames lie that a record of a legal history hands out.
-use Rattle.std.proofs.Common.{◌≡◌, ℕ, List, [], ◌∷◌, ◌++◌, true, false, Option, Some, ap, sym, subst, ◌∙◌, inl, inr, IfSome}
+use Rattle.std.proofs.Common.{◌≡◌, ℕ, List, [], ◌∷◌, ◌++◌, true, false, Option, Some, sym, subst, ◌∙◌, inl, inr, IfSome}
 use Rattle.std.proofs.lemmas.Bool.{both_ways, cases_Bool}
 use Rattle.hp_units.specs.LayoutParts.{LayoutParts, IsLayout}
 use Rattle.hp_units.specs.Arithmetic.{block_of}
@@ -9,7 +9,7 @@ use Rattle.hp_units.specs.History.{IsLegal, goes_back, is_refused, value_of}
 use Rattle.hp_units.specs.Rows.{is_going}
 use Rattle.hp_units.specs.Step.{step}
 use Rattle.hp_units.specs.Placement.{IsWellPlaced}
-use Rattle.hp_laws.proofs.Names.{Event, Record, Reply, Done, GivesFrame, Word, Moved, Opened, Restored, Released, Undone, Refused}
+use Rattle.hp_laws.proofs.Names.{Event, Record, Reply, Done, Moved}
 use Rattle.hp_laws.proofs.EventSteps.{value-placed}
 use Rattle.hp_laws.proofs.LawProofs.{last_follows}
 use Rattle.hp_laws.proofs.Records.{record_cases}
@@ -19,26 +19,12 @@ use Rattle.hp_laws.proofs.HandedFrames.{IsPlugged, IsStaying, step-plugged, step
 refused_nothing : (after : Memory) (event : Event) (reply : Reply) (frame : ℕ) → is_refused reply ≡ true
     → handed_by_reply after event reply ≡ Some frame → ⊥
 refused_nothing after event Done frame e f = cc
-refused_nothing after event (GivesFrame other) frame e f = cc
-refused_nothing after event (Word word) frame e f = cc
-refused_nothing after event (Moved from to) frame e f = cc
-refused_nothing after event (Opened op) frame e f = cc
-refused_nothing after event Restored frame e f = cc
-refused_nothing after event Released frame e f = cc
-refused_nothing after event (Undone count) frame e f = cc
-refused_nothing after event (Refused refusal) frame e f = cc
+refused_nothing after event _ frame e f = cc
 
 back_nothing : (after : Memory) (event : Event) (reply : Reply) (frame : ℕ) → goes_back reply ≡ true
     → handed_by_reply after event reply ≡ Some frame → ⊥
 back_nothing after event Done frame e f = cc
-back_nothing after event (GivesFrame other) frame e f = cc
-back_nothing after event (Word word) frame e f = cc
-back_nothing after event (Moved from to) frame e f = cc
-back_nothing after event (Opened op) frame e f = cc
-back_nothing after event Restored frame e f = cc
-back_nothing after event Released frame e f = cc
-back_nothing after event (Undone count) frame e f = cc
-back_nothing after event (Refused refusal) frame e f = cc
+back_nothing after event _ frame e f = cc
 
 step_handed : (l : LayoutParts) (s after : Memory) (event : Event) (reply : Reply) (serial cpu frame : ℕ)
     → IsLayout l → IsWellPlaced l s → reply ≡ (step l s serial cpu event).reply
@@ -69,11 +55,11 @@ pub record-staying : (l : LayoutParts) (base : Memory) (before : ℕ) (h : List 
     → IsLayout l → IsWellPlaced l base → IsLegal l base before (h ++ r ∷ [])
     → r.reply ≡ Moved from to → is_going (row_of (value_of l base h).blocks (block_of l to)) ≡ false
 record-staying l base before h r from to layout p legal e =
-    elim (record_cases l base before h r (last_follows l base before h r legal) (ap is_refused e)) [
-      | inl back ↦ absurd (both_ways (goes_back r.reply) (ap goes_back e) back)
+    elim (record_cases l base before h r (last_follows l base before h r legal) (rw e)) [
+      | inl back ↦ absurd (both_ways (goes_back r.reply) (rw e) back)
       | inr is ↦ (let staying : IsStaying l (value_of l base h) to =
           subst (λ (x : Reply). IfSome (to_of x) (IsStaying l (value_of l base h))) (sym
-          is.reply ∙ e) (step-staying l (value_of l base h) r.serial r.cpu r.event layout
+          is.reply ∙ e) (step-staying l _ _ r.cpu r.event layout
           (value-placed l base h layout p)) in
           staying.still)
     ]

@@ -1,5 +1,5 @@
 -- One frame handed out by a processor's list.
-use Rattle.std.proofs.Common.{◌≡◌, ℕ, ◌+◌, ◌*◌, ◌<◌, List, [], ◌∷◌, length, Bool, true, false, cond, Option, Some, None, refl, subst, arith, IfSome, eq-eqb, ◌==◌}
+use Rattle.std.proofs.Common.{◌≡◌, ℕ, ◌+◌, ◌*◌, ◌<◌, List, [], ◌∷◌, length, Bool, true, false, cond, Option, Some, refl, subst, arith, IfSome, eq-eqb, ◌==◌}
 use Rattle.std.specs.Option.{option_map}
 use Rattle.std.proofs.lemmas.Bool.{or_left}
 use Rattle.std.proofs.lemmas.List.Sums.{sum_by-set}
@@ -15,13 +15,12 @@ use Rattle.hp_units.specs.Arithmetic.{pageblock_of}
 use Rattle.hp_units.specs.Memory.{FreeFrames, Memory, cached_list, with_cached_list, pool_index, pool_of, zone_of_pool, class_of_pool, isolated_class, usable_class}
 use Rattle.hp_units.specs.FreeAreas.{is_on, class_of_kind}
 use Rattle.hp_units.specs.ProcessorLists.{Handed, Refill, take_frames, refilled_from, pop_from}
-use Rattle.hp_units.specs.Rows.{with_areas}
 use Rattle.hp_units.specs.Step.{with_free}
-use Rattle.hp_units.specs.Placement.{free_places, cached_places, IsInOrder, IsWellPlaced, class_at, pool_at, row_at, kind_at, covered}
-use Rattle.hp_lemmas.proofs.Lists.{on_tail}
+use Rattle.hp_units.specs.Placement.{free_places, cached_places, IsInOrder, IsWellPlaced, class_at, pool_at, row_at, covered}
+use Rattle.hp_units.proofs.ListEdits.{on_tail}
 use Rattle.hp_laws.proofs.States.{areas_of, areas-in_order}
 use Rattle.hp_laws.proofs.Drains.{times, times-cons, pool_zone, RefillOrdered, take_frames-ordered, cached-in_order}
-use Rattle.hp_lemmas.proofs.Pools.{pool_index-lt}
+use Rattle.hp_units.proofs.Pools.{pool_index-lt}
 
 -- what a processor hands out: the frame leaves its place, and it was one of the pool
 pub record HandsPlaced (l : LayoutParts) (s : Memory) (zone : Zone) (handed : Handed) : Type 0 where
@@ -34,46 +33,32 @@ pub record HandsPlaced (l : LayoutParts) (s : Memory) (zone : Zone) (handed : Ha
 pub class_pool : (zone : Option Zone) (kind : Kind) (pool : Pool)
     → option_map (λ z. class_of_kind z kind) zone ≡ Some (class_of_pool pool)
     → option_map (λ z. pool_of z kind.mobility) zone ≡ Some pool
-class_pool zone kind pool e = cases zone kind.isolated kind.mobility pool e
+class_pool zone kind pool e = cases zone _ _ pool e
   where
     cases : (zone : Option Zone) (isolated : Bool) (m : Mobility) (pool : Pool)
         → option_map (λ z. cond isolated (isolated_class z) (usable_class z m)) zone
         ≡ Some (class_of_pool pool)
         → option_map (λ z. pool_of z m) zone ≡ Some pool
-    cases None isolated m pool e = cc
-    cases (Some NormalZone) true m NuPool e = cc
-    cases (Some NormalZone) true m NmPool e = cc
-    cases (Some NormalZone) true m MmPool e = cc
-    cases (Some MovableZone) true m NuPool e = cc
-    cases (Some MovableZone) true m NmPool e = cc
-    cases (Some MovableZone) true m MmPool e = cc
     cases (Some NormalZone) false Unmovable NuPool e = refl
-    cases (Some NormalZone) false Unmovable NmPool e = cc
-    cases (Some NormalZone) false Unmovable MmPool e = cc
-    cases (Some NormalZone) false Movable NuPool e = cc
     cases (Some NormalZone) false Movable NmPool e = refl
-    cases (Some NormalZone) false Movable MmPool e = cc
-    cases (Some MovableZone) false m NuPool e = cc
-    cases (Some MovableZone) false m NmPool e = cc
     cases (Some MovableZone) false m MmPool e = refl
+    cases (Some NormalZone) true m NuPool e = cc
+    cases (Some MovableZone) true m NuPool e = cc
+    cases _ _ _ _ e = cc
 
 -- a pageblock whose free blocks are of a pool's class isn't isolated
 pub class_shown : (zone : Option Zone) (kind : Kind) (pool : Pool)
     → option_map (λ z. class_of_kind z kind) zone ≡ Some (class_of_pool pool) → kind.isolated ≡ false
-class_shown zone kind pool e = cases zone kind.isolated kind.mobility pool e
+class_shown zone kind pool e = cases zone _ _ pool e
   where
     cases : (zone : Option Zone) (isolated : Bool) (m : Mobility) (pool : Pool)
         → option_map (λ z. cond isolated (isolated_class z) (usable_class z m)) zone
         ≡ Some (class_of_pool pool)
         → isolated ≡ false
     cases zone false m pool e = refl
-    cases None true m pool e = cc
     cases (Some NormalZone) true m NuPool e = cc
-    cases (Some NormalZone) true m NmPool e = cc
-    cases (Some NormalZone) true m MmPool e = cc
     cases (Some MovableZone) true m NuPool e = cc
-    cases (Some MovableZone) true m NmPool e = cc
-    cases (Some MovableZone) true m MmPool e = cc
+    cases _ true m _ e = cc
 
 pub cached-places : (fs : FreeFrames) (cpu : ℕ) (pool : Pool) (frames : List ℕ) (frame : ℕ)
     → 3 * cpu + pool_index pool < length fs.cached
@@ -92,14 +77,11 @@ refilled-placed l s cpu pool [] e low p =
     let refill : Refill = take_frames l pool l.batch s.free.areas in
     let short : 3 * cpu + pool_index pool < length s.free.cached = omega (arith, p.in_order.shape.cached) in
     let taken : RefillOrdered l (class_at l s.free.areas.kinds s.blocks.rows) s.free.areas
-    (class_of_pool pool) refill =
-    take_frames-ordered l (class_at l s.free.areas.kinds s.blocks.rows) pool l.batch s.free.areas
-    (areas_of l s p) in
-    let areas = areas-in_order l s refill.areas p.in_order taken.ordered taken.kinds in
+    (class_of_pool pool) refill = take_frames-ordered l _ pool l.batch _ (areas_of l s p) in
+    let areas = areas-in_order l s _ p.in_order taken.ordered taken.kinds in
     record {
-      in_order = cached-in_order l (with_areas s refill.areas) cpu pool refill.frames areas low (λ frame on.
-          rw taken.kinds (class_pool (row_at l s.blocks.rows (pageblock_of l frame)).zone
-          (kind_at s.free.areas.kinds (pageblock_of l frame)) pool (taken.classes frame on)));
+      in_order = cached-in_order l _ cpu pool _ areas low (λ frame on. rw taken.kinds (class_pool _
+          _ pool (taken.classes frame on)));
       once =
           λ frame. omega (
             arith,
@@ -126,7 +108,5 @@ pop-placed l s cpu pool (x ∷ xs) e low p =
       places =
           λ frame.
           omega (arith, rw e at (cached-places s.free cpu pool xs frame short), times-cons frame x xs);
-      zone_is =
-          pool_zone (row_at l s.blocks.rows (pageblock_of l x)).zone (kind_at s.free.areas.kinds
-          (pageblock_of l x)).mobility pool (of x (or_left (x == x) (is_on x xs) (eq-eqb x x refl)));
+      zone_is = pool_zone _ _ pool (of x (or_left (x == x) (is_on x xs) (eq-eqb x x refl)));
     }

@@ -1,8 +1,7 @@
 -- A block's pageblocks become isolated, or are so no more, and its row changes with them.
-use Rattle.std.proofs.Common.{◌≡◌, ◌≢◌, ℕ, zero, suc, ◌+◌, ◌*◌, ◌/◌, ◌^◌, ◌<◌, ◌≤◌, List, length, get_or, set, Bool, false, Option, Some, None, refl, sym, ◌∙◌, ap, subst, arith, ◌⊎◌, inl, inr, length-set}
+use Rattle.std.proofs.Common.{◌≡◌, ◌≢◌, ℕ, zero, suc, ◌+◌, ◌*◌, ◌/◌, ◌^◌, ◌<◌, ◌≤◌, List, length, get_or, set, Bool, false, Option, Some, refl, sym, ◌∙◌, ap, arith, ◌⊎◌, inl, inr, length-set}
 use Rattle.std.specs.Prelude.{fold}
 use Rattle.std.specs.List.{range_with_len}
-use Rattle.std.specs.Option.{option_map}
 use Rattle.std.proofs.lemmas.Bool.{cases_eq, cases_lt, both_ways, false_from_ne_true}
 use Rattle.std.proofs.lemmas.List.{get_or-set_other, get_or-set_same}
 use Rattle.std.proofs.lemmas.Nat.{pow_pos, mul-le, div-add-mod'}
@@ -21,9 +20,9 @@ use Rattle.hp_units.specs.Rows.{is_going, with_areas, with_block_row}
 use Rattle.hp_units.specs.Placement.{IsBlockOf, IsInOrder, IsKernelAt, IsRow, IsWellPlaced, class_at, free_places, is_unplugged, kind_at, offline_places, row_at}
 use Rattle.hp_laws.proofs.Ordered.{AreOrdered}
 use Rattle.hp_laws.proofs.Options.{some_weaker}
-use Rattle.hp_lemmas.proofs.Geometry.{buddy_above}
+use Rattle.hp_units.proofs.Geometry.{buddy_above}
 use Rattle.hp_laws.proofs.Areas.{on_free, other-ordered}
-use Rattle.hp_laws.proofs.States.{areas_of, get_or-cases}
+use Rattle.hp_laws.proofs.States.{areas_of, get_or-cases, reshaped}
 use Rattle.hp_laws.proofs.Rows.{unplugged_zone}
 use Rattle.hp_laws.proofs.Onlines.{quotient}
 use Rattle.hp_laws.specs.Commits.{IsInRange}
@@ -37,79 +36,64 @@ pub record MovesOrdered (l : LayoutParts) (now : ℕ → Option Class) (a b : Fr
   pub places : (frame : ℕ) → free_places b frame ≡ free_places a frame
   pub kinds : b.kinds ≡ a.kinds
 
--- a block that was kept is of another pageblock
-kept_away : (l : LayoutParts) (at : ℕ → Option Class) (a : FreeAreas) (from : Class) (pageblock : ℕ)
-    (class : Class) (order first : ℕ)
-    → at pageblock ≡ Some from → AreOrdered l at a
-    → IsKeptBlock l a from pageblock (l.order + 1) class order first → pageblock_of l first ≢ pageblock
-kept_away l at a from pageblock class order first is h kept here =
-    let same : class ≡ from =
-    same_Some class from (sym (h.blocks class order first kept.was).class_agrees ∙ ap at here ∙ is) in
-    kept.away (omega (arith, (on_free l at a class order first h kept.was).low)) same here
+module _ (l : LayoutParts) (at now : ℕ → Option Class) (a : FreeAreas) (from to : Class) (pageblock : ℕ)
+    (is : at pageblock ≡ Some from) (becomes : now pageblock ≡ Some to)
+    (others : (other : ℕ) → other ≢ pageblock → now other ≡ at other) (h : AreOrdered l at a) where
+  -- a block that was kept is of another pageblock
+  kept_away : (class : Class) (order first : ℕ)
+      → IsKeptBlock l a from pageblock (l.order + 1) class order first → pageblock_of l first ≢ pageblock
+  kept_away class order first kept here =
+      let same : class ≡ from =
+      same_Some class from (sym (h.blocks class order first kept.was).class_agrees ∙ ap at here ∙ is) in
+      kept.away (omega (arith, (on_free l at a class order first h kept.was).low)) same here
 
-moves-block : (l : LayoutParts) (at now : ℕ → Option Class) (a : FreeAreas) (from to : Class) (pageblock : ℕ)
-    (class : Class) (order first : ℕ)
-    → at pageblock ≡ Some from → now pageblock ≡ Some to
-    → ((other : ℕ) → other ≢ pageblock → now other ≡ at other) → AreOrdered l at a
-    → WasBlock l a from to pageblock (l.order + 1) class order first → IsBlockOf l now class order first
-moves-block l at now a from to pageblock class order first is becomes others h (inl m) =
-    record {
-      aligned = (h.blocks from order first m.was).aligned;
-      class_agrees = ap now m.here ∙ becomes ∙ ap (λ (c : Class). Some c) (sym m.class_is);
-    }
-moves-block l at now a from to pageblock class order first is becomes others h (inr k) =
-    let block = h.blocks class order first k.was in
-    record {
-      aligned = block.aligned;
-      class_agrees =
-          others (pageblock_of l first) (kept_away l at a from pageblock class order first is h k)
-          ∙ block.class_agrees;
-    }
+  moves-block : (class : Class) (order first : ℕ)
+      → WasBlock l a from to pageblock (l.order + 1) class order first → IsBlockOf l now class order first
+  moves-block class order first (inl m) =
+      record {
+        aligned = (h.blocks from order first m.was).aligned;
+        class_agrees = rw (m.here, becomes, ← m.class_is);
+      }
+  moves-block class order first (inr k) =
+      let block = h.blocks class order first k.was in
+      record {
+        aligned = block.aligned;
+        class_agrees = others (pageblock_of l first) (kept_away class order first k) ∙ block.class_agrees;
+      }
 
-moves-joined : (l : LayoutParts) (at : ℕ → Option Class) (a : FreeAreas) (from to : Class) (pageblock : ℕ)
-    (class : Class) (order first : ℕ)
-    → at pageblock ≡ Some from → AreOrdered l at a → order < l.order
-    → WasBlock l a from to pageblock (l.order + 1) class order first
-    → WasBlock l a from to pageblock (l.order + 1) class order (buddy first order) → ⊥
-moves-joined l at a from to pageblock class order first is h below (inl m) (inl n) =
-    both_ways (is_on (buddy first order) (free_list a from order)) (h.joined from order first below m.was)
-    n.was
-moves-joined l at a from to pageblock class order first is h below (inl m) (inr n) =
-    kept_away l at a from pageblock class order (buddy first order) is h n
-    (buddy_above first order l.order (h.blocks from order first m.was).aligned below ∙ m.here)
-moves-joined l at a from to pageblock class order first is h below (inr k) (inl n) =
-    kept_away l at a from pageblock class order first is h k
-    (sym (buddy_above first order l.order (h.blocks class order first k.was).aligned below) ∙ n.here)
-moves-joined l at a from to pageblock class order first is h below (inr k) (inr n) =
-    both_ways (is_on (buddy first order) (free_list a class order)) (h.joined class order first below k.was)
-    n.was
+  moves-joined : (class : Class) (order first : ℕ) → order < l.order
+      → WasBlock l a from to pageblock (l.order + 1) class order first
+      → WasBlock l a from to pageblock (l.order + 1) class order (buddy first order) → ⊥
+  moves-joined class order first below (inl m) (inl n) =
+      both_ways _ (h.joined from order first below m.was) n.was
+  moves-joined class order first below (inl m) (inr n) =
+      kept_away class order (buddy first order) n
+      (buddy_above first order _ (h.blocks from order first m.was).aligned below ∙ m.here)
+  moves-joined class order first below (inr k) (inl n) =
+      kept_away class order first k
+      (sym (buddy_above first order _ (h.blocks class order first k.was).aligned below) ∙ n.here)
+  moves-joined class order first below (inr k) (inr n) =
+      both_ways _ (h.joined class order first below k.was) n.was
 
-pub moves-ordered : (l : LayoutParts) (at now : ℕ → Option Class) (a : FreeAreas) (from to : Class)
-    (pageblock : ℕ)
-    → at pageblock ≡ Some from → now pageblock ≡ Some to
-    → ((other : ℕ) → other ≢ pageblock → now other ≡ at other) → AreOrdered l at a
-    → MovesOrdered l now a (move_free_below l a from to pageblock (l.order + 1))
-moves-ordered l at now a from to pageblock is becomes others h =
-    let b : FreeAreas = move_free_below l a from to pageblock (l.order + 1) in
-    let moved : MovesBelow l a from to pageblock (l.order + 1) b =
-    moves_below l a from to pageblock (l.order + 1) (omega (arith, h.lists)) h.few in
-    record {
-      ordered = record {
-        lists = moved.lists ∙ h.lists;
-        few = λ frame. omega (arith, moved.places frame, h.few frame);
-        blocks =
-            λ class order first on.
-            moves-block l at now a from to pageblock class order first is becomes others
-            h (moved.blocks class order first on);
-        joined =
-            λ class order first below on.
-            false_from_ne_true (is_on (buddy first order) (free_list b class order)) (λ there.
-            moves-joined l at a from to pageblock class order first is h below
-            (moved.blocks class order first on) (moved.blocks class order (buddy first order) there));
-      };
-      places = moved.places;
-      kinds = moved.kinds;
-    }
+  pub moves-ordered : MovesOrdered l now a (move_free_below l a from to pageblock (l.order + 1))
+  moves-ordered =
+      let b : FreeAreas = move_free_below l a from to pageblock (l.order + 1) in
+      let moved : MovesBelow l a from to pageblock (l.order + 1) b =
+      moves_below l a from to pageblock (l.order + 1) (omega (arith, h.lists)) h.few in
+      record {
+        ordered = record {
+          lists = moved.lists ∙ h.lists;
+          few = λ frame. omega (arith, moved.places frame, h.few frame);
+          blocks = λ class order first on. moves-block class order first (moved.blocks class order first on);
+          joined =
+              λ class order first below on.
+              false_from_ne_true (is_on (buddy first order) (free_list b class order)) (λ there.
+              moves-joined class order first below (moved.blocks class order first on)
+              (moved.blocks class order (buddy first order) there));
+        };
+        places = moved.places;
+        kinds = moved.kinds;
+      }
 
 -- ---- one pageblock after another
 
@@ -143,10 +127,7 @@ move_pageblock-range l rows zone isolated a pageblock short zone_is h =
     → get_or (set ks pageblock moved) other plain_kind ≡ get_or ks other plain_kind =
     λ other ne. get_or-set_other ks pageblock other moved plain_kind ne in
     let moves : MovesOrdered l (class_at l (set ks pageblock moved) rows) a b =
-    moves-ordered l (class_at l ks rows) (class_at l (set ks pageblock moved) rows) a from to pageblock
-    (ap (option_map (λ z. class_of_kind z kind)) zone_is)
-    (rw (now, zone_is))
-    (λ other ne. rw (others other ne)) h in
+    moves-ordered l _ _ a from to _ (rw zone_is) (rw (now, zone_is)) (λ other ne. rw (others other ne)) h in
     let whole : MovesRange l rows isolated pageblock 1 a (record b { kinds = set ks pageblock moved }) =
     record {
       ordered =
@@ -159,12 +140,12 @@ move_pageblock-range l rows zone isolated a pageblock short zone_is h =
       places = moves.places;
       size = length-set ks pageblock moved;
       mobility = λ other. elim (cases_eq other pageblock) [
-        | inl same ↦ rw same (ap (λ (k : Kind). k.mobility) now)
-        | inr ne ↦ ap (λ (k : Kind). k.mobility) (others other ne)
+        | inl same ↦ rw same (rw now)
+        | inr ne ↦ rw (others other ne)
       ];
       inside = λ other among. (let same : other ≡ pageblock = omega (arith, among.low, among.high) in
-          rw same (ap (λ (k : Kind). k.isolated) now));
-      outside = λ other away. ap (λ (k : Kind). k.isolated) (others other (λ same. apart other same away));
+          rw same (rw now));
+      outside = λ other away. rw (others other (λ same. apart other same away));
     } in
     rw moves.kinds whole
   where
@@ -189,7 +170,7 @@ move_all-range l rows zone isolated a from zero short zones h = record {
 }
 move_all-range l rows zone isolated a from (suc count) short zones h =
     let first =
-    move_pageblock-range l rows zone isolated a from (omega arith)
+    move_pageblock-range l rows zone _ a from (omega arith)
     (zones from (record { low = omega arith; high = omega arith })) h in
     let rest =
     move_all-range l rows zone isolated (move_pageblock l zone isolated a from) (from + 1) count (omega
@@ -205,8 +186,7 @@ move_all-range l rows zone isolated a from (suc count) short zones h =
             rest.outside pageblock (inl low) ∙ first.inside pageblock (record { low = among.low; high = low })
         | inr high ↦ rest.inside pageblock (record { low = high; high = omega (arith, among.high) })
       ];
-      outside =
-          λ pageblock away. before_after pageblock away (rest.outside pageblock) (first.outside pageblock);
+      outside = λ pageblock away. before_after _ away (rest.outside pageblock) (first.outside pageblock);
     }
   where
     before_after : (pageblock : ℕ) {x y z : Bool} → (pageblock < from) ⊎ (from + suc count ≤ pageblock)
@@ -231,7 +211,7 @@ pub pageblock_elsewhere : (l : LayoutParts) (block pageblock : ℕ) → block_of
 pageblock_elsewhere l block pageblock ne = elim (cases_lt pageblock (block * l.pageblocks)) [
   | inl low ↦ inl low
   | inr from ↦ elim (cases_lt pageblock (block * l.pageblocks + l.pageblocks)) [
-    | inl to ↦ absurd (ne (quotient pageblock l.pageblocks block from to))
+    | inl to ↦ absurd (ne (quotient _ _ block from to))
     | inr high ↦ inr high
   ]
 ]
@@ -257,34 +237,22 @@ moved_block-placed l s block zone isolated row layout p low was is is_row going 
     mul-le (block + 1) l.pageblocks l.blocks l.pageblocks (omega arith) (omega arith) in
     let next : (block + 1) * l.pageblocks ≡ block * l.pageblocks + l.pageblocks = grind arith in
     let range : MovesRange l s.blocks.rows isolated (block * l.pageblocks) l.pageblocks s.free.areas b =
-    move_all-range l s.blocks.rows zone isolated s.free.areas (block * l.pageblocks) l.pageblocks
-    (omega (arith, h.shape.kinds))
-    (λ pageblock among. subst (λ (n : ℕ). (row_of s.blocks n).zone ≡ Some zone)
-    (sym (quotient pageblock l.pageblocks block among.low among.high)) was) (areas_of l s p) in
+    move_all-range l _ zone _ _ _ _ (omega (arith, h.shape.kinds))
+    (λ pageblock among. rw (quotient _ _ block among.low among.high) was) (areas_of l s p) in
     let now : get_or rows block offline_row ≡ row =
     get_or-set_same s.blocks.rows block row offline_row short in
     let zones : (pageblock : ℕ) → (row_at l rows pageblock).zone ≡ (row_at l s.blocks.rows pageblock).zone =
     λ pageblock. elim (cases_eq (block_of_pageblock l pageblock) block) [
-      | inl same ↦ rw same (ap (λ (r : Row). r.zone) now ∙ is ∙ sym was)
+      | inl same ↦ rw same (rw (now, is, ← was))
       | inr ne ↦ rw (get_or-set_other s.blocks.rows block (block_of_pageblock l pageblock) row offline_row ne)
     ] in
     let ordered : AreOrdered l (class_at l b.kinds rows) b =
-    other-ordered l (class_at l b.kinds s.blocks.rows) (class_at l b.kinds rows) b
-    (λ first there. rw (zones (pageblock_of l first))) range.ordered in
+    other-ordered l _ _ b (λ first there. rw (zones (pageblock_of l first))) range.ordered in
     record {
       in_order = record {
         shape =
-            record {
-              lists = ordered.lists;
-              kinds = range.size ∙ h.shape.kinds;
-              cached = h.shape.cached;
-              owners = h.shape.owners;
-              pages = h.shape.pages;
-              content_owners = h.shape.content_owners;
-              content_pages = h.shape.content_pages;
-              kernel = h.shape.kernel;
-              rows = length-set s.blocks.rows block row ∙ h.shape.rows;
-            };
+            reshaped l s _ _ _ h.shape ordered.lists (range.size ∙ h.shape.kinds) h.shape.cached
+            h.shape.kernel (length-set s.blocks.rows block row ∙ h.shape.rows);
         blocks = ordered.blocks;
         joined = ordered.joined;
         cached = λ cpu pool frame on.
@@ -300,14 +268,14 @@ moved_block-placed l s block zone isolated row layout p low was is is_row going 
             λ pageblock unmovable.
             zones pageblock ∙ h.mobility pageblock (sym (range.mobility pageblock) ∙ unmovable);
         isolated = λ pageblock. elim (cases_eq (block_of_pageblock l pageblock) block) [
-          | inl same ↦ range.inside pageblock (pageblock_range l block pageblock some same)
-              ∙ sym (rw same (ap is_going now ∙ going))
-          | inr ne ↦ range.outside pageblock (pageblock_elsewhere l block pageblock ne) ∙ h.isolated pageblock
+          | inl same ↦ range.inside pageblock (pageblock_range l block _ some same)
+              ∙ sym (rw same (rw (now, going)))
+          | inr ne ↦ range.outside pageblock (pageblock_elsewhere l block _ ne) ∙ h.isolated pageblock
               ∙ sym (ap is_going
               (get_or-set_other s.blocks.rows block (block_of_pageblock l pageblock) row offline_row ne))
         ];
         rows =
-            get_or-cases (λ (n : ℕ) (r : Row). IsRow r) s.blocks.rows block row offline_row short is_row
+            get_or-cases (λ (n : ℕ) (r : Row). IsRow r) _ block row _ short is_row
             h.rows;
         words = h.words;
       };
@@ -316,17 +284,14 @@ moved_block-placed l s block zone isolated row layout p low was is is_row going 
             arith,
             p.once frame,
             range.places frame,
-            same_offline frame (old_plugged (row_of s.blocks block) refl (h.rows block)) now short,
+            same_offline frame (old_plugged _ refl (h.rows block)) now short,
           );
     }
   where
     old_plugged : (r : Row) → r ≡ row_of s.blocks block → IsRow r → is_unplugged r ≡ false
     old_plugged r e is_r =
         false_from_ne_true (is_unplugged r) (λ off.
-        no_zone (sym (unplugged_zone r.state r.zone r.claim off is_r) ∙ ap (λ (q : Row). q.zone) e ∙ was))
-      where
-        no_zone : None ≡ Some zone → ⊥
-        no_zone e = cc
+        cc (rw e at (unplugged_zone r.state r.zone r.claim off is_r), was))
 
     same_offline : (frame : ℕ) → is_unplugged (row_of s.blocks block) ≡ false
         → get_or (set s.blocks.rows block row) block offline_row ≡ row → block < length s.blocks.rows

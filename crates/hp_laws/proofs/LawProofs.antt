@@ -1,5 +1,5 @@
 -- The laws of undo and Cancel, over all legal histories.
-use Rattle.std.proofs.Common.{◌≡◌, ℕ, ◌+◌, ◌-◌, true, false, List, [], ◌∷◌, ◌++◌, length, take, map, Option, Some, None, slice_get, refl, ap, sym, subst, ◌∙◌, arith}
+use Rattle.std.proofs.Common.{◌≡◌, ℕ, ◌-◌, true, false, List, [], ◌∷◌, ◌++◌, length, take, map, Option, Some, None, slice_get, refl, ap, sym, subst, ◌∙◌, arith}
 use Rattle.std.specs.Prelude.{◌==◌}
 use Rattle.std.proofs.lemmas.List.{take_all, take-append-le}
 use Rattle.std.proofs.lemmas.Option.{none-some, same_Some, slice_get-map}
@@ -21,14 +21,14 @@ pub last_follows : (l : LayoutParts) (base : Memory) (before : ℕ) (h : List Re
     → IsLegal l base before (h ++ r ∷ []) → Follows l base before h r
 last_follows l base before h r legal =
     subst (λ (g : List Record). Follows l base before g r) (take-append-le (length h) h (r ∷ []) (omega arith)
-    ∙ take_all (length h) h (omega arith)) (legal (length h) r (get_end h r))
+    ∙ take_all _ h (omega arith)) (legal (length h) r (get_end h r))
 
 -- a legal history without its last record is legal
 pub front_legal : (l : LayoutParts) (base : Memory) (before : ℕ) (h : List Record) (r : Record)
     → IsLegal l base before (h ++ r ∷ []) → IsLegal l base before h
 front_legal l base before h r legal =
     subst (λ (g : List Record). IsLegal l base before g) (take-append-le (length h) h (r ∷ []) (omega arith)
-    ∙ take_all (length h) h (omega arith)) (legal_take l base before (h ++ r ∷ []) (length h) legal)
+    ∙ take_all _ h (omega arith)) (legal_take l base before _ _ legal)
 
 -- the state after an undo
 pub undone : (l : LayoutParts) (base : Memory) (s : ℕ) (h : List Record) (r : Record) → r.event ≡ UndoAfter s
@@ -50,7 +50,7 @@ opening_is_begin _ h = absurd cc
 -- the record at a place that is sole
 pub sole_record : (op : ℕ) (n : List Record) (k : ℕ) → IsSole op (map tag_of n) k
     → (b : Record) × (slice_get n k ≡ Some b) × (b.serial ≡ op) × (is_opening (mark_of b.event) ≡ true)
-sole_record op n k is = by_record (slice_get n k) refl
+sole_record op n k is = by_record _ refl
   where
     by_record : (o : Option Record) → slice_get n k ≡ o
         → (b : Record) × (slice_get n k ≡ Some b) × (b.serial ≡ op) × (is_opening (mark_of b.event) ≡ true)
@@ -81,8 +81,7 @@ restored_place l base before op h r legal event restored = by_place (sole_at op 
     by_place : (o : Option ℕ) → sole_at op (map tag_of (net_of h)) ≡ o
         → (k : ℕ) × (sole_at op (map tag_of (net_of h)) ≡ Some k)
     by_place None at =
-        absurd (false≢true (sym (steps l (value_of l base h) (before + length h + 1) r.cpu (Cancel op)).onward
-        ∙ ap goes_back (rw at at answers)))
+        absurd (false≢true (sym (steps l _ _ r.cpu _).onward ∙ ap goes_back (rw at at answers)))
     by_place (Some k) at = (k, at)
 
 -- a Cancel that restores cuts the net at its operation's Begin
@@ -99,14 +98,14 @@ pub restored_cut : (l : LayoutParts) (base : Memory) (before op : ℕ) (h : List
 unfolding value_of
 restored_cut l base before op h r legal event is =
     let place = restored_place l base before op h r legal event is in
-    let sole = sole_record op (net_of h) place.0 (sole_sound op (map tag_of (net_of h)) place.0 place.1) in
+    let sole = sole_record op _ _ (sole_sound op _ _ place.1) in
     record {
       place = place.0;
       begin = sole.0;
       here = sole.1;
       serial = sole.2;
       opens = sole.3;
-      value = rw (net-push h r, net_restored op place.0 (net_of h) r event (ap is_refused is) place.1);
+      value = rw (net-push h r, net_restored op _ _ r event (rw is) place.1);
     }
 
 -- the state after a Cancel that restores
@@ -118,8 +117,8 @@ unfolding value_of
 restored l base before op h r legal event is =
     let cut : IsCutAt l base op h r = restored_cut l base before op h r legal event is in
     let roots = rooted_net l base before h (front_legal l base before h r legal) in
-    let opens = opening_is_begin cut.begin.event cut.opens in
-    let serial : cut.begin.serial - before - 1 ≡ op - before - 1 = ap (λ (x : ℕ). x - before - 1) cut.serial
+    let opens = opening_is_begin _ cut.opens in
+    let serial : cut.begin.serial - before - 1 ≡ op - before - 1 = rw cut.serial
     in (
       cut.begin,
       opens.0,

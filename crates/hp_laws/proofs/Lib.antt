@@ -58,3 +58,8 @@ pub mod Steps
 pub mod Tables
 pub mod Takes
 pub mod Undo
+pub mod RenumberedRows
+pub mod RenumberedSteps
+pub mod Alike
+pub mod Numbered
+pub mod NumberedOptions

@@ -20,7 +20,7 @@ get_push_cases [] y x zero h = inr (refl, cc)
 get_push_cases [] y x (suc k) h = absurd cc
 get_push_cases (z ∷ xs) y x zero h = inl h
 get_push_cases (z ∷ xs) y x (suc k) h =
-    elim (get_push_cases xs y x k h) [ inl e ↦ inl e | inr e ↦ inr (ap suc e.0, e.1) ]
+    elim (get_push_cases xs y x k h) [ inl e ↦ inl e | inr e ↦ inr (rw e.0, e.1) ]
 
 -- a place in the beginning of a list
 pub get_take : {A : Type 0} (n : ℕ) (xs : List A) (x : A) (k : ℕ) → slice_get (take n xs) k ≡ Some x

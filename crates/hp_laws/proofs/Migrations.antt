@@ -1,9 +1,8 @@
 -- A page moves to another frame.
-use Rattle.std.proofs.Common.{◌≡◌, ℕ, suc, ◌+◌, ◌≤◌, List, [], ◌∷◌, get_or, true, Option, Some, None, refl, ap, subst, arith, IfSome, eqb-true}
-use Rattle.std.specs.Prelude.{is_some, position, flat_map}
+use Rattle.std.proofs.Common.{◌≡◌, ℕ, suc, ◌+◌, ◌≤◌, List, [], ◌∷◌, true, Option, Some, None, refl, ap, arith, IfSome, eqb-true}
+use Rattle.std.specs.Prelude.{is_some, position}
 use Rattle.std.specs.Option.{option_map, option_map_or, option_or}
 use Rattle.std.proofs.lemmas.List.Quantifiers.{position-Some}
-use Rattle.hp_units.specs.declared.replies.Reply.TheVariants.{Moved}
 use Rattle.hp_units.specs.declared.rows.Class.TheVariants.{Nm, Mm}
 use Rattle.hp_units.specs.declared.rows.Mobility.TheVariants.{Movable}
 use Rattle.hp_units.specs.declared.rows.Pool.{Pool}
@@ -11,18 +10,17 @@ use Rattle.hp_units.specs.declared.rows.Pool.TheVariants.{Nm as NmPool, Mm as Mm
 use Rattle.hp_units.specs.declared.rows.Zone.{Zone}
 use Rattle.hp_units.specs.declared.rows.Zone.TheVariants.{Normal as NormalZone}
 use Rattle.hp_units.specs.LayoutParts.{LayoutParts, IsLayout}
-use Rattle.hp_units.specs.Arithmetic.{frames_of_block, pageblock_of}
 use Rattle.hp_units.specs.Memory.{Memory, Pages, entry_of, with_entry, class_of_pool, zone_of_pool}
-use Rattle.hp_units.specs.FreeAreas.{Taken, class_of_kind, give_block, steal_block, take_block}
-use Rattle.hp_units.specs.Pages.{frame_at, holds, move_page, page_at, page_from, words_at}
+use Rattle.hp_units.specs.FreeAreas.{Taken, give_block, steal_block, take_block}
+use Rattle.hp_units.specs.Pages.{frame_at, holds, page_at, page_from, words_at}
 use Rattle.hp_units.specs.Migrations.{migration_source, migration_target}
-use Rattle.hp_units.specs.Rows.{going_blocks, with_areas, zone_of}
-use Rattle.hp_units.specs.Step.{done, migrate_step, with_pages}
-use Rattle.hp_units.specs.Placement.{IsInOrder, IsPage, IsWellPlaced, class_at, free_places, kind_at, mapped_places, row_at, covered}
-use Rattle.hp_lemmas.proofs.Joins.{give_block-places}
+use Rattle.hp_units.specs.Rows.{with_areas, zone_of}
+use Rattle.hp_units.specs.Step.{migrate_step, with_pages, Answered}
+use Rattle.hp_units.specs.Placement.{IsInOrder, IsPage, IsWellPlaced, class_at, free_places, mapped_places, covered}
+use Rattle.hp_units.proofs.Joins.{give_block-places}
 use Rattle.hp_laws.proofs.Ordered.{AreOrdered}
-use Rattle.hp_laws.proofs.Options.{found_passes, some_weaker}
-use Rattle.hp_lemmas.proofs.Geometry.{aligned_ancestor}
+use Rattle.hp_laws.proofs.Options.{found_passes, some_weaker, option_cases}
+use Rattle.hp_units.proofs.Geometry.{aligned_ancestor}
 use Rattle.hp_laws.proofs.Takes.{TakesOrdered, take_block-ordered}
 use Rattle.hp_laws.proofs.Gives.{give_block-ordered, give_block-kinds}
 use Rattle.hp_laws.proofs.States.{areas_of, areas-in_order}
@@ -30,7 +28,7 @@ use Rattle.hp_laws.proofs.Steals.{TakesPlaced, or_some, steal_block-placed}
 use Rattle.hp_laws.proofs.Drains.{single, pool_zone}
 use Rattle.hp_laws.proofs.Hands.{class_pool, class_shown}
 use Rattle.hp_laws.proofs.Tables.{pages-in_order}
-use Rattle.hp_lemmas.proofs.Tables.{entry-cases, entry_within, held-some, mapped-places, table_of, contents_of, with_entry-table}
+use Rattle.hp_units.proofs.Tables.{entry-cases, entry_within, held-some, mapped-places, table_of, contents_of, with_entry-table}
 use Rattle.hp_laws.proofs.PageSteps.{mapped_zone}
 
 -- ---- the page at a frame
@@ -43,13 +41,13 @@ pub record IsPageAt (rows : List (List (Option ℕ))) (first frame owner page : 
 
 held_entry : (frame : ℕ) (e : Option ℕ) → holds frame e ≡ true → e ≡ Some frame
 held_entry frame None h = cc
-held_entry frame (Some other) h = ap (λ (n : ℕ). Some n) (eqb-true other frame h)
+held_entry frame (Some other) h = rw (eqb-true other frame h)
 
 pub page_from-at : (first frame owner page : ℕ) (rows : List (List (Option ℕ)))
     → page_from first rows frame ≡ Some (owner, page) → IsPageAt rows first frame owner page
 page_from-at first frame owner page [] e = cc
 page_from-at first frame owner page (row ∷ rows) e =
-    by_position (position (holds frame) row) refl e (page_from-at (first + 1) frame owner page rows)
+    by_position _ refl e (page_from-at (first + 1) frame owner page rows)
   where
     by_position : (o : Option ℕ) → position (holds frame) row ≡ o
         → option_or (option_map (λ p. (first, p)) o) (page_from (first + 1) rows frame) ≡ Some (owner, page)
@@ -65,10 +63,16 @@ page_from-at first frame owner page (row ∷ rows) e =
         record {
           row = 0;
           sum = omega (arith, owner_is);
-          entry =
-              subst (λ (n : ℕ). get_or row n None ≡ Some frame) page_is
-              (held_entry frame (get_or row p None) (position-Some (holds frame) row p None is).1);
+          entry = rw (← page_is) (held_entry frame _ (position-Some (holds frame) row p None is).1);
         }
+
+-- so the page that is found at a frame has it
+pub page_found : (s : Memory) (from : ℕ) (page : ℕ × ℕ) → page_at s.pages from ≡ Some page
+    → frame_at s.pages page.0 page.1 ≡ Some from
+page_found s from page e =
+    let at = page_from-at 0 from page.0 page.1 _ e in
+    let same : at.row ≡ page.0 = omega (arith, at.sum) in
+    rw (← same) at.entry
 
 -- ---- the frame that it moves to
 
@@ -83,22 +87,17 @@ pool_taken l s pool p =
     (λ taken t. (
       zone_of_pool pool,
       record {
-        in_order = areas-in_order l s taken.areas p.in_order t.ordered t.kinds;
+        in_order = areas-in_order l s _ p.in_order t.ordered t.kinds;
         places = t.places;
         aligned = t.block.aligned;
         zone_is =
-            pool_zone (row_at l s.blocks.rows (pageblock_of l taken.frame)).zone
-            (kind_at s.free.areas.kinds (pageblock_of l taken.frame)).mobility pool
-            (class_pool (row_at l s.blocks.rows (pageblock_of l taken.frame)).zone
-            (kind_at s.free.areas.kinds (pageblock_of l taken.frame)) pool t.block.class_agrees);
+            pool_zone _ _ pool (class_pool _
+            _ pool t.block.class_agrees);
         shown =
-            class_shown (row_at l s.blocks.rows (pageblock_of l taken.frame)).zone
-            (kind_at s.free.areas.kinds (pageblock_of l taken.frame)) pool t.block.class_agrees;
+            class_shown _
+            _ pool t.block.class_agrees;
       },
-    ))
-    (take_block l s.free.areas (class_of_pool pool) 0)
-    (take_block-ordered l (class_at l s.free.areas.kinds s.blocks.rows) s.free.areas (class_of_pool pool) 0
-    (areas_of l s p))
+    )) (take_block l s.free.areas (class_of_pool pool) 0) (take_block-ordered l _ _ _ 0 (areas_of l s p))
 
 pub target-placed : (l : LayoutParts) (s : Memory) → IsLayout l → IsWellPlaced l s
     → IfSome (migration_target l s.free.areas) (TakesSome l s)
@@ -108,7 +107,7 @@ target-placed l s layout p =
     (or_some (TakesSome l s) (take_block l s.free.areas Nm 0) (steal_block l s.free.areas Movable 0)
     (pool_taken l s NmPool p)
     (some_weaker (TakesPlaced l s NormalZone 0) (TakesSome l s) (λ taken t. (NormalZone, t))
-    (steal_block l s.free.areas Movable 0) (steal_block-placed l s Movable 0 layout p)))
+    (steal_block l s.free.areas Movable 0) (steal_block-placed l s _ 0 layout p)))
 
 -- ---- it moves, and its old frame goes back
 
@@ -129,10 +128,9 @@ moved-placed l s from owner page taken p e t =
     let ps : Pages = record s.pages { table = with_entry s.pages.table owner page (Some taken.frame) } in
     let h : IsInOrder l (with_pages (with_areas s taken.areas) ps) =
     pages-in_order l (with_areas s taken.areas) ps t.1.in_order
-    (with_entry-table l.owners l.pages s.pages.table owner page (Some taken.frame) within.owner_in table)
-    (contents_of l s p.in_order)
-    (entry-cases (λ (o q : ℕ) (x : Option ℕ). IsPage l x (entry_of s.pages.contents o q)) l.owners l.pages
-    s.pages.table owner page (Some taken.frame) within.owner_in within.page_in table
+    (with_entry-table _ _ _ owner page _ within.owner_in table) (contents_of l s p.in_order)
+    (entry-cases (λ (o q : ℕ) (x : Option ℕ). IsPage l x (entry_of s.pages.contents o q)) _ _
+    _ owner page _ within.owner_in within.page_in table
     (moved_page l from taken.frame (frame_at s.pages owner page) (words_at s.pages owner page) e
     (p.in_order.words owner page)) (λ o q elsewhere. p.in_order.words o q)) in
     let moved : (frame : ℕ)
@@ -157,13 +155,9 @@ moved-placed l s from owner page taken p e t =
     λ frame. omega (arith, p.once frame, t.1.places frame, moved frame) in
     let given =
     give_block-ordered l (class_at l taken.areas.kinds s.blocks.rows) taken.areas (zone_of l s from) from 0
-    (omega arith) (single from)
-    (ap (option_map (λ z. class_of_kind z (kind_at taken.areas.kinds (pageblock_of l from)))) zone_is) room
-    ordered in
+    (omega arith) (single from) (rw zone_is) room ordered in
     record {
-      in_order =
-          areas-in_order l (with_pages (with_areas s taken.areas) ps) (give_block l taken.areas
-          (zone_of l s from) from 0) h given (give_block-kinds l taken.areas (zone_of l s from) from 0);
+      in_order = areas-in_order l _ _ h given (give_block-kinds l _ _ from 0);
       once = λ frame.
           let places =
           give_block-places l taken.areas (zone_of l s from) from 0 frame ordered.lists (omega arith)
@@ -174,40 +168,13 @@ moved-placed l s from owner page taken p e t =
 pub migrate-placed : (l : LayoutParts) (s : Memory) (op : ℕ) → IsLayout l → IsWellPlaced l s
     → IsWellPlaced l (migrate_step l s op).memory
 unfolding migrate_step
-migrate-placed l s op layout p = by_source (migration_source l s op) refl
-  where
-    by_page : (from : ℕ) (taken : Taken) (o : Option (ℕ × ℕ)) → page_at s.pages from ≡ o → is_some o ≡ true
-        → TakesSome l s taken
-        → IsWellPlaced l
-        (with_areas (with_pages s (option_map_or
-        (λ page. record s.pages { table = with_entry s.pages.table page.0 page.1 (Some taken.frame) }) o
-        s.pages)) (give_block l taken.areas (zone_of l s from) from 0))
-    by_page from taken None e some t = cc
-    by_page from taken (Some page) e some t =
-        let at = page_from-at 0 from page.0 page.1 s.pages.table e in
-        let same : at.row ≡ page.0 = omega (arith, at.sum) in
-        moved-placed l s from page.0 page.1 taken p
-        (subst (λ (n : ℕ). entry_of s.pages.table n page.1 ≡ Some from) same at.entry) t
-
-    by_target : (from : ℕ) → is_some (page_at s.pages from) ≡ true → (o : Option Taken)
-        → IfSome o (TakesSome l s)
-        → IsWellPlaced l (option_map_or (λ taken. record {
-          memory =
-              with_areas (with_pages s (move_page s.pages from taken.frame))
-              (give_block l taken.areas (zone_of l s from) from 0);
-          reply = Moved from taken.frame;
-        }) o (done s)).memory
-    by_target from some None t = p
-    by_target from some (Some taken) t = by_page from taken (page_at s.pages from) refl some t
-
-    by_source : (o : Option ℕ) → migration_source l s op ≡ o
-        → IsWellPlaced l (option_map_or (λ from. option_map_or (λ taken. record {
-          memory =
-              with_areas (with_pages s (move_page s.pages from taken.frame))
-              (give_block l taken.areas (zone_of l s from) from 0);
-          reply = Moved from taken.frame;
-        }) (migration_target l s.free.areas) (done s)) o (done s)).memory
-    by_source None e = p
-    by_source (Some from) e =
-        by_target from (found_passes (λ frame. is_some (page_at s.pages frame)) (flat_map (frames_of_block l)
-        (going_blocks l s.blocks op)) from e) (migration_target l s.free.areas) (target-placed l s layout p)
+migrate-placed l s op layout p =
+    option_cases (λ (a : Answered). IsWellPlaced l a.memory) _ (migration_source l s op) _ (λ from source.
+    option_cases (λ (a : Answered). IsWellPlaced l a.memory) _ (migration_target l s.free.areas) _
+    (λ taken target. option_cases (λ (ps : Pages). IsWellPlaced l
+    (with_areas (with_pages s ps) (give_block l taken.areas (zone_of l s from) from 0))) _
+    (page_at s.pages from) _
+    (λ page found. moved-placed l s from page.0 page.1 taken p (page_found s from page found)
+    (rw target at (target-placed l s layout p)))
+    (λ none. cc (rw none at (found_passes (λ frame. is_some (page_at s.pages frame)) _ from source))))
+    (λ none. p)) (λ none. p)

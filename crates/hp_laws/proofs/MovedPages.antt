@@ -1,27 +1,23 @@
 -- A migration gives one page another frame, leaves each other page where it is, and changes no
 -- word.
-use Rattle.std.proofs.Common.{◌≡◌, ◌≢◌, ℕ, ◌≤◌, ◌==◌, List, true, cond, Option, Some, None, refl, sym, ◌∙◌, ap, subst, arith, eq-eqb, ne_eqb}
+use Rattle.std.proofs.Common.{◌≡◌, ◌≢◌, ℕ, ◌≤◌, ◌==◌, List, cond, Option, Some, None, refl, sym, ◌∙◌, ap, arith, eq-eqb, ne_eqb}
 use Rattle.std.proofs.lemmas.Bool.{cond-true, cond-false}
-use Rattle.std.specs.Prelude.{is_some, flat_map}
-use Rattle.std.specs.Option.{option_map, option_map_or}
+use Rattle.std.specs.Prelude.{is_some}
+use Rattle.std.specs.Option.{option_map}
 use Rattle.hp_units.specs.declared.events.Event.TheVariants.{Migrate}
 use Rattle.hp_units.specs.declared.replies.Refusal.{Refusal}
 use Rattle.hp_units.specs.declared.replies.Reply.{Reply}
 use Rattle.hp_units.specs.declared.replies.Reply.TheVariants.{Done, Moved, Refused}
 use Rattle.hp_units.specs.LayoutParts.{LayoutParts}
-use Rattle.hp_units.specs.Arithmetic.{frames_of_block}
-use Rattle.hp_units.specs.Memory.{Memory, entry_of, with_entry}
-use Rattle.hp_units.specs.FreeAreas.{Taken, give_block}
+use Rattle.hp_units.specs.Memory.{Memory, entry_of, with_entry, Pages}
 use Rattle.hp_units.specs.Migrations.{migration_source, migration_target}
-use Rattle.hp_units.specs.Pages.{frame_at, move_page, page_at}
-use Rattle.hp_units.specs.Refusals.{refusal_of}
-use Rattle.hp_units.specs.Rows.{going_blocks, with_areas, zone_of}
-use Rattle.hp_units.specs.Step.{answer, done, migrate_step, step, with_pages}
+use Rattle.hp_units.specs.Pages.{frame_at, page_at}
+use Rattle.hp_units.specs.Step.{answer, migrate_step, step, Answered}
 use Rattle.hp_units.specs.Placement.{IsWellPlaced, covered, mapped_places}
-use Rattle.hp_lemmas.proofs.Lists.{covered-self}
-use Rattle.hp_lemmas.proofs.Tables.{IsElsewhere, IsTable, entry-apart, entry-cases, entry_within, held, held-some, in_pages, mapped-places, mapped_some, table_of, with_entry-table}
-use Rattle.hp_laws.proofs.Migrations.{page_from-at}
-use Rattle.hp_laws.proofs.Options.{found_passes}
+use Rattle.hp_units.proofs.ListEdits.{covered-self}
+use Rattle.hp_units.proofs.Tables.{IsElsewhere, IsTable, entry-apart, entry-cases, entry_within, held, held-some, in_pages, mapped-places, mapped_some, table_of, with_entry-table}
+use Rattle.hp_laws.proofs.Migrations.{page_found}
+use Rattle.hp_laws.proofs.Options.{found_passes, option_cases}
 use Rattle.hp_laws.proofs.OwnedContents.{migrate_step-contents}
 
 -- ---- no word changes
@@ -35,7 +31,7 @@ answer-words l s serial cpu op None = migrate_step-contents l s op
 pub migrate-words : (l : LayoutParts) (s : Memory) (serial cpu op : ℕ)
     → (step l s serial cpu (Migrate op)).memory.pages.contents ≡ s.pages.contents
 unfolding step
-migrate-words l s serial cpu op = answer-words l s serial cpu op (refusal_of l s cpu (Migrate op))
+migrate-words l s serial cpu op = answer-words l s serial cpu op _
 
 -- ---- the frames of the pages
 
@@ -66,7 +62,7 @@ at_another owners pages table owner page from o p is e once elsewhere there =
     let one : held from (Some from) ≡ covered from 0 from = held-some from from in
     let self : covered from 0 from ≡ 1 = covered-self 0 from in
     let some : 1 ≤ in_pages from (with_entry table owner page None) =
-    mapped_some owners pages (with_entry table owner page None) o p from (with_entry-table owners pages table
+    mapped_some owners pages _ o p from (with_entry-table owners pages table
     owner page None within.owner_in is) (entry-apart table owner page None o p elsewhere ∙ there) in
     omega arith
 
@@ -79,10 +75,9 @@ written-frames : (owners pages : ℕ) (table : List (List (Option ℕ))) (owner 
 written-frames owners pages table owner page from to is e once =
     let within = entry_within owners pages table owner page from is e in
     entry-cases (λ (o p : ℕ) (x : Option ℕ). x ≡ option_map (frame_after (Moved from to))
-    (entry_of table o p)) owners pages table owner page (Some to) within.owner_in within.page_in is
+    (entry_of table o p)) owners pages table owner page _ within.owner_in within.page_in is
     (comes from to ∙ ap (λ (x : Option ℕ). option_map (frame_after (Moved from to)) x) (sym e))
-    (λ o p elsewhere. stays from to (entry_of table o p)
-    (at_another owners pages table owner page from o p is e once elsewhere))
+    (λ o p elsewhere. stays from to _ (at_another owners pages table owner page from o p is e once elsewhere))
 
 -- no page moves
 same-frame : (e : Option ℕ) → e ≡ option_map (frame_after Done) e
@@ -93,64 +88,31 @@ refused-frame : (refusal : Refusal) (e : Option ℕ) → e ≡ option_map (frame
 refused-frame refusal None = refl
 refused-frame refusal (Some frame) = refl
 
+-- a page of a state is where the answer leaves it
+abbrev IsMoved : Memory → (o p : ℕ) → Answered → Type 0
+IsMoved s o p a = frame_at a.memory.pages o p ≡ option_map (frame_after a.reply) (frame_at s.pages o p)
+
 -- where the pages of a state are after the step
 pub migrate_step-frames : (l : LayoutParts) (s : Memory) (op o p : ℕ) → IsWellPlaced l s
-    → frame_at (migrate_step l s op).memory.pages o p
-    ≡ option_map (frame_after (migrate_step l s op).reply) (frame_at s.pages o p)
+    → IsMoved s o p (migrate_step l s op)
 unfolding migrate_step
-migrate_step-frames l s op o p placed = by_source (migration_source l s op) refl
-  where
-    by_page : (from to : ℕ) (found : Option (ℕ × ℕ)) → page_at s.pages from ≡ found → is_some found ≡ true
-        → frame_at (option_map_or
-        (λ page. record s.pages { table = with_entry s.pages.table page.0 page.1 (Some to) }) found
-        s.pages) o p ≡ option_map (frame_after (Moved from to)) (frame_at s.pages o p)
-    by_page from to None e some = cc
-    by_page from to (Some page) e some =
-        let at = page_from-at 0 from page.0 page.1 s.pages.table e in
-        let same : at.row ≡ page.0 = omega (arith, at.sum) in
-        written-frames l.owners l.pages s.pages.table page.0 page.1 from to (table_of l s placed.in_order)
-        (subst (λ (n : ℕ). entry_of s.pages.table n page.1 ≡ Some from) same at.entry)
-        (let once : mapped_places s.pages from ≤ 1 = omega (arith, placed.once from) in once) o p
-
-    by_target : (from : ℕ) → is_some (page_at s.pages from) ≡ true → (t : Option Taken)
-        → frame_at (option_map_or (λ taken. record {
-          memory =
-              with_areas (with_pages s (move_page s.pages from taken.frame))
-              (give_block l taken.areas (zone_of l s from) from 0);
-          reply = Moved from taken.frame;
-        }) t (done s)).memory.pages o p ≡ option_map (frame_after (option_map_or (λ taken. record {
-          memory =
-              with_areas (with_pages s (move_page s.pages from taken.frame))
-              (give_block l taken.areas (zone_of l s from) from 0);
-          reply = Moved from taken.frame;
-        }) t (done s)).reply) (frame_at s.pages o p)
-    by_target from some None = same-frame (frame_at s.pages o p)
-    by_target from some (Some taken) = by_page from taken.frame (page_at s.pages from) refl some
-
-    by_source : (f : Option ℕ) → migration_source l s op ≡ f
-        → frame_at (option_map_or (λ from. option_map_or (λ taken. record {
-          memory =
-              with_areas (with_pages s (move_page s.pages from taken.frame))
-              (give_block l taken.areas (zone_of l s from) from 0);
-          reply = Moved from taken.frame;
-        }) (migration_target l s.free.areas) (done s)) f (done s)).memory.pages o p
-        ≡ option_map (frame_after (option_map_or (λ from. option_map_or (λ taken. record {
-          memory =
-              with_areas (with_pages s (move_page s.pages from taken.frame))
-              (give_block l taken.areas (zone_of l s from) from 0);
-          reply = Moved from taken.frame;
-        }) (migration_target l s.free.areas) (done s)) f (done s)).reply) (frame_at s.pages o p)
-    by_source None e = same-frame (frame_at s.pages o p)
-    by_source (Some from) e =
-        by_target from (found_passes (λ frame. is_some (page_at s.pages frame)) (flat_map (frames_of_block l)
-        (going_blocks l s.blocks op)) from e) (migration_target l s.free.areas)
+migrate_step-frames l s op o p placed =
+    option_cases (λ a. IsMoved s o p a) _ (migration_source l s op) _ (λ from source.
+    option_cases (λ a. IsMoved s o p a) _ (migration_target l s.free.areas) _ (λ taken target.
+    option_cases (λ (ps : Pages). frame_at ps o p ≡ option_map (frame_after (Moved from taken.frame))
+    (frame_at s.pages o p)) _ (page_at s.pages from) _ (λ page found.
+    let once : mapped_places s.pages from ≤ 1 = omega (arith, placed.once from) in
+    written-frames l.owners l.pages s.pages.table page.0 page.1 from taken.frame
+    (table_of l s placed.in_order) (page_found s from page found) once o p)
+    (λ none. cc (rw none at (found_passes (λ frame. is_some (page_at s.pages frame)) _ from source))))
+    (λ none. same-frame (frame_at s.pages o p))) (λ none. same-frame (frame_at s.pages o p))
 
 -- by the answer
 answer-frames : (l : LayoutParts) (s : Memory) (serial cpu op o p : ℕ) (refused : Option Refusal)
     → IsWellPlaced l s
     → frame_at (answer l s serial cpu (Migrate op) refused).memory.pages o p
     ≡ option_map (frame_after (answer l s serial cpu (Migrate op) refused).reply) (frame_at s.pages o p)
-answer-frames l s serial cpu op o p (Some refusal) placed = refused-frame refusal (frame_at s.pages o p)
+answer-frames l s serial cpu op o p (Some refusal) placed = refused-frame refusal _
 answer-frames l s serial cpu op o p None placed = migrate_step-frames l s op o p placed
 
 -- the page that was at the old frame is at the new one, and each other page where it was
@@ -160,4 +122,4 @@ pub migrate-frames : (l : LayoutParts) (s : Memory) (serial cpu op from to o p :
     ≡ option_map (λ frame. cond (frame == from) to frame) (frame_at s.pages o p)
 unfolding step
 migrate-frames l s serial cpu op from to o p placed replied =
-    rw (answer-frames l s serial cpu op o p (refusal_of l s cpu (Migrate op)) placed, replied)
+    rw (answer-frames l s serial cpu op o p _ placed, replied)

@@ -1,6 +1,6 @@
 -- The frames of a range that are on a list, and those of the list that are not in the range, are
 -- the list's frames.
-use Rattle.std.proofs.Common.{◌≡◌, ℕ, zero, suc, ◌+◌, ◌≤◌, List, [], ◌∷◌, Bool, true, false, not, cond, refl, ◌∙◌, subst, arith, inl, inr, ◌==◌, ◌||◌, ◌&&◌, eq-eqb, ne_eqb}
+use Rattle.std.proofs.Common.{◌≡◌, ℕ, zero, suc, ◌+◌, ◌≤◌, List, [], ◌∷◌, Bool, true, false, not, cond, refl, ◌∙◌, arith, inl, inr, ◌==◌, ◌||◌, ◌&&◌, eq-eqb, ne_eqb}
 use Rattle.std.specs.Prelude.{filter, nat_le, nat_lt}
 use Rattle.std.specs.List.{sum_by, range_with_len}
 use Rattle.std.proofs.lemmas.Bool.{cases_eq, false_from_ne_true}
@@ -8,8 +8,8 @@ use Rattle.std.proofs.lemmas.Bool.Decides.{nat_tests}
 use Rattle.std.proofs.lemmas.List.Sums.{sum_by-cons}
 use Rattle.hp_units.specs.FreeAreas.{is_on}
 use Rattle.hp_units.specs.Placement.{list_places}
-use Rattle.hp_lemmas.proofs.Places.{list_places-cons}
-use Rattle.hp_lemmas.proofs.Lists.{covered-self, on-places}
+use Rattle.hp_units.proofs.Places.{list_places-cons}
+use Rattle.hp_units.proofs.ListEdits.{covered-self, on-places}
 
 -- the sum over the numbers of a range that pass
 total : (w : ℕ → ℕ) (p : ℕ → Bool) (from count : ℕ) → ℕ
@@ -20,8 +20,7 @@ sum-filter : (w : ℕ → ℕ) (p : ℕ → Bool) (from count : ℕ)
     → sum_by w (filter p (range_with_len from count)) ≡ total w p from count
 unfolding total
 sum-filter w p from zero = refl
-sum-filter w p from (suc count) =
-    step (p from) (filter p (range_with_len (from + 1) count)) (sum-filter w p (from + 1) count)
+sum-filter w p from (suc count) = step _ _ (sum-filter w p (from + 1) count)
   where
     step : (b : Bool) (xs : List ℕ) {n : ℕ} → sum_by w xs ≡ n
         → sum_by w (cond b (from ∷ xs) xs) ≡ cond b (w from) 0 + n
@@ -46,7 +45,7 @@ total-more w p x from zero e =
     within_none x from = grind (arith, nat_tests)
 total-more w p x from (suc count) e = elim (cases_eq x from) [
   | inl same ↦
-      let off : p from ≡ false = subst (λ (n : ℕ). p n ≡ false) same e in
+      let off : p from ≡ false = rw (← same) e in
       let here : cond ((x == from) || p from) (w from) 0 ≡ w x = rw (eq-eqb x from same, same) refl in
       let gone : cond (p from) (w from) 0 ≡ 0 = rw off refl in
       let yes : (nat_le from x && nat_lt x (from + suc count)) ≡ true = grind (arith, nat_tests) in
@@ -92,8 +91,7 @@ moved-sum w from count (x ∷ xs) apart =
     let more = total-more w (λ y. is_on y xs) x from count apart.0 in
     let whole = sum-filter w (λ y. is_on y (x ∷ xs)) from count in
     let part = sum-filter w (λ y. is_on y xs) from count in
-    step (is_among from count x) (filter (λ y. not (is_among from count y)) xs) rest (whole ∙ more) part
-    (sum_by-cons w x xs)
+    step _ _ rest (whole ∙ more) part (sum_by-cons w x xs)
   where
     step : (b : Bool) (ys : List ℕ) {part whole old now t : ℕ} → part + sum_by w ys ≡ old
         → whole ≡ cond b (w x) 0 + t → part ≡ t → now ≡ w x + old

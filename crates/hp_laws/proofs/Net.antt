@@ -25,7 +25,7 @@ run-append l s (r ∷ a) b = run-append l (step l s r.serial r.cpu r.event).memo
 pub run-push : (l : LayoutParts) (s : Memory) (a : List Record) (r : Record)
     → run l s (a ++ r ∷ []) ≡ (step l (run l s a) r.serial r.cpu r.event).memory
 unfolding run
-run-push l s a r = run-append l s a (r ∷ [])
+run-push l s a r = run-append l s a _
 
 -- a record that may stand after a legal history makes a longer one
 pub legal_push : (l : LayoutParts) (base : Memory) (before : ℕ) (h : List Record) (r : Record)
@@ -45,7 +45,7 @@ pub legal_take : (l : LayoutParts) (base : Memory) (before : ℕ) (h : List Reco
 legal_take l base before h k legal n x e =
     let at = get_take k h x n e in
     let le : n ≤ k = omega (arith, at.0) in
-    subst (λ (g : List Record). Follows l base before g x) (sym (take-take n k h le)) (legal n x at.1)
+    rw (take-take n k h le) (legal n x at.1)
 
 -- what holds of no records, and is kept by each, holds of each beginning of a legal history
 pub legal_each : (l : LayoutParts) (base : Memory) (before : ℕ) (P : List Record → Type 0) → P []
@@ -55,7 +55,7 @@ legal_each l base before P none more h legal zero le = none
 legal_each l base before P none more h legal (suc n) le =
     let r = get_some h n (omega arith) in
     subst P (sym (take_next h n r.0 r.1))
-    (more (take n h) r.0 (legal n r.0 r.1) (legal_each l base before P none more h legal n (omega arith)))
+    (more _ r.0 (legal n r.0 r.1) (legal_each l base before P none more h legal n (omega arith)))
 
 -- what holds of no records, and is kept by each, holds of each legal history
 pub legal_all : (l : LayoutParts) (base : Memory) (before : ℕ) (P : List Record → Type 0) → P []
@@ -63,7 +63,7 @@ pub legal_all : (l : LayoutParts) (base : Memory) (before : ℕ) (P : List Recor
     → (h : List Record) → IsLegal l base before h → P h
 legal_all l base before P none more h legal =
     subst P (take_all (length h) h (omega arith))
-    (legal_each l base before P none more h legal (length h) (omega arith))
+    (legal_each l base before P none more h legal _ (omega arith))
 
 -- the serials of steps rise, above what went before and up to the last
 pub record Numbered (before last : ℕ) (n : List Record) : Type 0 where

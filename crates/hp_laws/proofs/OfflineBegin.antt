@@ -17,11 +17,10 @@ use Rattle.hp_units.specs.LayoutParts.{LayoutParts, IsLayout}
 use Rattle.hp_units.specs.Arithmetic.{all_blocks, block_of, frames_of_block}
 use Rattle.hp_units.specs.Memory.{Memory, kernel_order, offline_row, row_of}
 use Rattle.hp_units.specs.Refusals.{kernel_frame_in, plan_refusals}
-use Rattle.hp_units.specs.Rows.{begin_block, begin_plan, claim_block, claimed_row, is_going_state, is_off, wish_of}
+use Rattle.hp_units.specs.Rows.{begin_block, begin_plan, claim_block, is_going_state, is_off, wish_of}
 use Rattle.hp_units.specs.Placement.{IsRowOf, IsWellPlaced}
 use Rattle.hp_laws.specs.Consequences.{IsGoingFor}
 use Rattle.hp_laws.specs.Offline.{AreHeldBy}
-use Rattle.hp_laws.proofs.Names.{HoldsUnmovable}
 use Rattle.hp_laws.proofs.Options.{found_passes, map_none}
 use Rattle.hp_laws.proofs.OwnedContents.{AllNone, all_none}
 use Rattle.hp_laws.proofs.EventSteps.{not_there}
@@ -46,7 +45,7 @@ set_cases : (rows : List Row) (i : ℕ) (row : Row) (k : ℕ)
     ⊎ ((k ≡ i) × (get_or (set rows i row) k offline_row ≡ row))
 set_cases (x ∷ xs) zero row zero = inr (refl, refl)
 set_cases (x ∷ xs) (suc i) row (suc k) =
-    elim (set_cases xs i row k) [ inl e ↦ inl e | inr e ↦ inr (ap suc e.0, e.1) ]
+    elim (set_cases xs i row k) [ inl e ↦ inl e | inr e ↦ inr (rw e.0, e.1) ]
 set_cases _ _ row _ = inl refl
 
 -- of a row that carries the plan's wish
@@ -56,34 +55,30 @@ set-from : (op : ℕ) (plan : List Item) (s t : Memory) (block : ℕ) (row : Row
     → (other : ℕ) (claim : Claim)
     → (get_or (set t.blocks.rows block row) other offline_row).claim ≡ Some claim
     → IsFrom op plan s other claim
-set-from op plan s t block row wish is carries h other claim e =
-    elim (set_cases t.blocks.rows block row other) [
-      | inl old ↦ h other claim (ap (λ (r : Row). r.claim) (sym old) ∙ e)
-      | inr new ↦
-          let same : record { op = op; wish = wish } ≡ claim =
-          same_Some (record { op = op; wish = wish }) claim
-          (sym carries ∙ (ap (λ (r : Row). r.claim) (sym new.1) ∙ e)) in
-          inr (
-            ap (λ (c : Claim). c.op) (sym same),
-            rw (new.0, is) (ap (λ (c : Claim). Some c.wish) same),
-          )
-    ]
+set-from op plan s t block row wish is carries h other claim e = elim (set_cases _ block row other) [
+  | inl old ↦ h other claim (ap (λ (r : Row). r.claim) (sym old) ∙ e)
+  | inr new ↦
+      let same : record { op = op; wish = wish } ≡ claim =
+      same_Some (record { op = op; wish = wish }) claim
+      (sym carries ∙ (ap (λ (r : Row). r.claim) (sym new.1) ∙ e)) in
+      inr (
+        rw (← same),
+        rw (new.0, is) (ap (λ (c : Claim). Some c.wish) same),
+      )
+]
 
 -- of a block that is claimed
 claim-from : (l : LayoutParts) (op : ℕ) (plan : List Item) (s t : Memory) (block : ℕ) (wish : Wish)
     → wish_of plan block ≡ Some wish → ClaimsFrom op plan s t
     → ClaimsFrom op plan s (claim_block l op t block wish)
-claim-from l op plan s t block OffWish is h =
-    set-from op plan s t block (claimed_row (row_of t.blocks block) op OffWish) OffWish is refl h
-claim-from l op plan s t block NormalWish is h =
-    set-from op plan s t block (claimed_row (row_of t.blocks block) op NormalWish) NormalWish is refl h
-claim-from l op plan s t block MovableWish is h =
-    set-from op plan s t block (claimed_row (row_of t.blocks block) op MovableWish) MovableWish is refl h
+claim-from l op plan s t block OffWish is h = set-from op plan s t block _ _ is refl h
+claim-from l op plan s t block NormalWish is h = set-from op plan s t block _ _ is refl h
+claim-from l op plan s t block MovableWish is h = set-from op plan s t block _ _ is refl h
 
 -- of one block of the plan
 begin_block-from : (l : LayoutParts) (op : ℕ) (plan : List Item) (s t : Memory) (block : ℕ)
     → ClaimsFrom op plan s t → ClaimsFrom op plan s (begin_block l op plan t block)
-begin_block-from l op plan s t block h = by_wish (wish_of plan block) refl
+begin_block-from l op plan s t block h = by_wish _ refl
   where
     by_wish : (o : Option Wish) → wish_of plan block ≡ o
         → ClaimsFrom op plan s (option_map_or (claim_block l op t block) o t)
@@ -109,8 +104,7 @@ begin-from l op plan s = fold-from l op plan s s (all_blocks l) (λ block claim 
 claim-kernel : (l : LayoutParts) (op : ℕ) (t : Memory) (block : ℕ) (wish : Wish)
     → (claim_block l op t block wish).kernel ≡ t.kernel
 claim-kernel l op t block OffWish = refl
-claim-kernel l op t block NormalWish = refl
-claim-kernel l op t block MovableWish = refl
+claim-kernel l op t block _ = refl
 
 -- or is not in the plan
 begin_block-kernel : (l : LayoutParts) (op : ℕ) (t : Memory) (block : ℕ) (o : Option Wish)
@@ -123,8 +117,7 @@ fold-kernel : (l : LayoutParts) (op : ℕ) (plan : List Item) (t : Memory) (bloc
     → (fold (begin_block l op plan) t blocks).kernel ≡ t.kernel
 fold-kernel l op plan t [] = refl
 fold-kernel l op plan t (block ∷ blocks) =
-    fold-kernel l op plan (begin_block l op plan t block) blocks
-    ∙ begin_block-kernel l op t block (wish_of plan block)
+    fold-kernel l op plan (begin_block l op plan t block) blocks ∙ begin_block-kernel l op t block _
 
 -- over the whole plan
 begin-kernel : (l : LayoutParts) (op : ℕ) (plan : List Item) (s : Memory)
@@ -142,19 +135,17 @@ found_none f p (x ∷ xs) item none e = by_test (p x) e (found_none f p xs item 
   where
     by_test : (b : Bool) → cond b (Some x) (find p xs) ≡ Some item → (find p xs ≡ Some item → f item ≡ None)
         → f item ≡ None
-    by_test true e later = (let same : x ≡ item = cc in subst (λ (i : Item). f i ≡ None) same none.0)
+    by_test true e later = (let same : x ≡ item = cc in rw (← same) none.0)
     by_test false e later = later e
 
 -- of a block that the plan wishes off
 kernel_none : (l : LayoutParts) (s : Memory) (plan : List Item) (block : ℕ) (wish : Wish)
     → first_some (plan_refusals l s plan) ≡ None → wish_of plan block ≡ Some wish → is_off wish ≡ true
     → find (λ frame. is_some (kernel_order s frame)) (frames_of_block l block) ≡ None
-kernel_none l s plan block wish e is off = by_item (find (λ item. item.block == block) plan) refl is
+kernel_none l s plan block wish e is off = by_item _ refl is
   where
     none : AllNone (map (kernel_frame_in l s) plan)
-    none =
-        all_none (map (kernel_frame_in l s) plan) (map_none HoldsUnmovable
-        (first_some (map (kernel_frame_in l s) plan)) (all_none (plan_refusals l s plan) e).1.1.1.1.1.1.0)
+    none = all_none _ (map_none _ _ (all_none (plan_refusals l s plan) e).1.1.1.1.1.1.0)
 
     by_item : (o : Option Item) → find (λ item. item.block == block) plan ≡ o
         → option_map (λ item. item.wish) o ≡ Some wish
@@ -165,8 +156,8 @@ kernel_none l s plan block wish e is off = by_item (find (λ item. item.block ==
         eqb-true item.block block (found_passes (λ i. i.block == block) plan item found) in
         let wishes : item.wish ≡ wish = cc in
         let its : kernel_frame_in l s item ≡ None =
-        found_none (kernel_frame_in l s) (λ i. i.block == block) plan item none found in
-        rw (← same) (when_off (is_off item.wish) (ap is_off wishes ∙ off) its)
+        found_none _ (λ i. i.block == block) plan item none found in
+        rw (← same) (when_off _ (rw (wishes, off)) its)
       where
         when_off : (b : Bool) → b ≡ true
             → cond b (find (λ frame. is_some (kernel_order s frame)) (frames_of_block l item.block)) None
@@ -199,15 +190,15 @@ pub begun_movable : (l : LayoutParts) (s : Memory) (op : ℕ) (plan : List Item)
 begun_movable l s op plan first layout claims e p h =
     let block : ℕ = block_of l first in
     let row : Row = row_of (begin_plan l s op plan).blocks block in
-    let has = off_claim op row row.state row.zone row.claim refl h.going h.claimed (p.in_order.rows block) in
+    let has = off_claim op row _ _ _ refl h.going h.claimed (p.in_order.rows block) in
     let stays : kernel_order (begin_plan l s op plan) first ≡ kernel_order s first =
-    ap (λ (ks : List (Option ℕ)). get_or ks first None) (begin-kernel l op plan s) in
+    rw (begin-kernel l op plan s) in
     elim (begin-from l op plan s block has.claim has.is) [
       | inl old ↦
           absurd (subst (λ (o : Option Claim). IfSome o (λ c. c.op ≢ op)) old
-          (claimed_at (λ n. n ≢ op) s.blocks.rows block claims) has.op_is)
+          (claimed_at (λ n. n ≢ op) _ block claims) has.op_is)
       | inr new ↦
-          let none = kernel_none l s plan block has.claim.wish e new.1 has.off in
-          stays ∙ not_there (kernel_order s first) (not_found (λ frame. is_some (kernel_order s frame))
-          (frames_of_block l block) first none (block_has l block first layout refl))
+          let none = kernel_none l s plan block _ e new.1 has.off in
+          stays ∙ not_there _ (not_found (λ frame. is_some (kernel_order s frame))
+          _ first none (block_has l block first layout refl))
     ]

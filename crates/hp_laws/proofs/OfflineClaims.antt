@@ -1,9 +1,10 @@
 -- The numbers of the operations that hold blocks: only a Begin's serial becomes one.
-use Rattle.std.proofs.Common.{◌≡◌, ℕ, zero, suc, ◌+◌, ◌/◌, ◌≤◌, List, [], ◌∷◌, length, get_or, set, Bool, true, false, cond, Option, Some, None, slice_get, refl, sym, subst, arith, IfSome, ◌≢◌, ◌<◌, ◌==◌, ◌||◌, eq-eqb, ne_eqb}
+use Rattle.hp_laws.proofs.Options.{option_cases}
+use Rattle.std.proofs.Common.{◌≡◌, ℕ, zero, suc, ◌+◌, ◌≤◌, List, [], ◌∷◌, length, get_or, set, false, Option, Some, None, slice_get, refl, arith, IfSome, ◌≢◌, ◌<◌, ◌==◌, eq-eqb, ne_eqb}
 use Rattle.std.specs.Prelude.{fold, replicate}
 use Rattle.std.specs.List.{AllByRecursion, enumerate_from, list_any}
 use Rattle.std.specs.Option.{option_map_or}
-use Rattle.std.proofs.lemmas.Bool.{both_ways, or_from}
+use Rattle.std.proofs.lemmas.Bool.{both_ways, or_from, or_parts, cond_both}
 use Rattle.hp_units.specs.declared.plans.Item.{Item}
 use Rattle.hp_units.specs.declared.rows.Auto.{Auto}
 use Rattle.hp_units.specs.declared.rows.Auto.TheVariants.{Offline as OfflineAuto, OnlineMovable as MovableAuto}
@@ -12,16 +13,14 @@ use Rattle.hp_units.specs.declared.rows.Boot.TheVariants.{Offline as OfflineBoot
 use Rattle.hp_units.specs.declared.rows.Claim.{Claim}
 use Rattle.hp_units.specs.declared.rows.Row.{Row}
 use Rattle.hp_units.specs.declared.rows.Wish.{Wish}
-use Rattle.hp_units.specs.declared.rows.Wish.TheVariants.{Off as OffWish, Normal as NormalWish, Movable as MovableWish}
+use Rattle.hp_units.specs.declared.rows.Wish.TheVariants.{Off as OffWish}
 use Rattle.hp_units.specs.declared.rows.Zone.{Zone}
-use Rattle.hp_units.specs.declared.rows.Zone.TheVariants.{Normal as NormalZone, Movable as MovableZone}
 use Rattle.hp_units.specs.LayoutParts.{LayoutParts}
-use Rattle.hp_units.specs.Arithmetic.{all_blocks, block_bytes}
+use Rattle.hp_units.specs.Arithmetic.{all_blocks}
 use Rattle.hp_units.specs.Boot.{boot_block, boot_memory, empty_memory}
 use Rattle.hp_units.specs.Memory.{Blocks, Memory, offline_row, row_of}
-use Rattle.hp_units.specs.History.{IsLegal, net_of, run, value_of}
-use Rattle.hp_units.specs.Refusals.{refusal_of}
-use Rattle.hp_units.specs.Rows.{is_claimed_by, begin_block, begin_plan, blocks_of, claim_block, commit_block, commit_blocks, grant, is_going, online_again, online_block, release_block, release_blocks, wish_of, with_block_row}
+use Rattle.hp_units.specs.History.{IsLegal, run, value_of}
+use Rattle.hp_units.specs.Rows.{is_claimed_by, begin_block, begin_plan, blocks_of, claim_block, commit_block, commit_blocks, grant, is_going, online_block, release_block, release_blocks, wish_of}
 use Rattle.hp_units.specs.Step.{answer, auto_online, perform, step}
 use Rattle.hp_laws.specs.Offline.{AreClaimedUpTo, AreHeldBy, IsHeldBy}
 use Rattle.hp_laws.proofs.Names.{Event, KernelAlloc, KernelFree, Map, Unmap, Online, Begin, Migrate, Commit, Cancel, Probe, Remove, Record, Refusal}
@@ -49,7 +48,7 @@ claimed_at P (x ∷ xs) (suc block) h = claimed_at P xs block h.1
 held_weaker : (P Q : ℕ → Type 0) (rows : List Row) → ((op : ℕ) → P op → Q op)
     → AllByRecursion (IsHeldBy P) rows → AllByRecursion (IsHeldBy Q) rows
 held_weaker P Q [] more h = tt
-held_weaker P Q (row ∷ rows) more h = (by_claim row.claim h.0, held_weaker P Q rows more h.1)
+held_weaker P Q (row ∷ rows) more h = (by_claim _ h.0, held_weaker P Q rows more h.1)
   where
     by_claim : (claim : Option Claim) → IfSome claim (λ c. P c.op) → IfSome claim (λ c. Q c.op)
     by_claim None k = tt
@@ -60,14 +59,10 @@ pub held_others : (op : ℕ) (rows : List Row) → list_any (is_claimed_by op) r
     → AllByRecursion (IsHeldBy (λ n. n ≢ op)) rows
 held_others op [] e = tt
 held_others op (row ∷ rows) e = (
-  by_claim row.claim (or_parts (is_claimed_by op row) (list_any (is_claimed_by op) rows) e).0,
-  held_others op rows (or_parts (is_claimed_by op row) (list_any (is_claimed_by op) rows) e).1,
+  by_claim _ (or_parts _ _ e).0,
+  held_others op rows (or_parts _ _ e).1,
 )
   where
-    or_parts : (a b : Bool) → (a || b) ≡ false → (a ≡ false) × (b ≡ false)
-    or_parts false b e = (refl, e)
-    or_parts true b e = cc
-
     by_claim : (claim : Option Claim) → option_map_or (λ c. c.op == op) claim false ≡ false
         → IfSome claim (λ c. c.op ≢ op)
     by_claim None e = tt
@@ -78,7 +73,7 @@ pub others_live : (op : ℕ) (rows : List Row) → AllByRecursion (IsHeldBy (λ 
     → list_any (is_claimed_by op) rows ≡ false
 others_live op [] h = refl
 others_live op (row ∷ rows) h =
-    or_from (is_claimed_by op row) (list_any (is_claimed_by op) rows) (by_claim row.claim h.0)
+    or_from (is_claimed_by op row) (list_any (is_claimed_by op) rows) (by_claim _ h.0)
     (others_live op rows h.1)
   where
     by_claim : (claim : Option Claim) → IfSome claim (λ c. c.op ≢ op)
@@ -91,78 +86,66 @@ claims_fold : {X : Type 0} (P : ℕ → Type 0) (f : Memory → X → Memory)
     → ((s : Memory) (x : X) → AreHeldBy P s.blocks → AreHeldBy P (f s x).blocks) → (s : Memory) (xs : List X)
     → AreHeldBy P s.blocks → AreHeldBy P (fold f s xs).blocks
 claims_fold P f k s [] h = h
-claims_fold P f k s (x ∷ xs) h = claims_fold P f k (f s x) xs (k s x h)
+claims_fold P f k s (x ∷ xs) h = claims_fold P f k _ xs (k s x h)
 
 -- a block goes online
 online-claims : (l : LayoutParts) (P : ℕ → Type 0) (zone : Zone) (s : Memory) (block : ℕ)
     → AreHeldBy P s.blocks → AreHeldBy P (online_block l zone s block).blocks
 unfolding online_block
-online-claims l P zone s block h = claimed_set P s.blocks.rows block _ h tt
+online-claims l P zone s block h = claimed_set P _ block _ h tt
 
 -- a block is claimed
 claim-claims : (l : LayoutParts) (P : ℕ → Type 0) (op : ℕ) (s : Memory) (block : ℕ) (wish : Wish) → P op
     → AreHeldBy P s.blocks → AreHeldBy P (claim_block l op s block wish).blocks
-claim-claims l P op s block OffWish le h = claimed_set P s.blocks.rows block _ h le
-claim-claims l P op s block NormalWish le h = claimed_set P s.blocks.rows block _ h le
-claim-claims l P op s block MovableWish le h = claimed_set P s.blocks.rows block _ h le
-
--- a block is written or not
-option-claims : {X : Type 0} (P : ℕ → Type 0) (f : X → Memory) (s : Memory) (o : Option X)
-    → ((x : X) → AreHeldBy P (f x).blocks) → AreHeldBy P s.blocks → AreHeldBy P (option_map_or f o s).blocks
-option-claims P f s None k h = h
-option-claims P f s (Some x) k h = k x
+claim-claims l P op s block OffWish le h = claimed_set P _ block _ h le
+claim-claims l P op s block _ le h = claimed_set P _ block _ h le
 
 -- an operation begins
 begin-claims : (l : LayoutParts) (P : ℕ → Type 0) (op : ℕ) (s : Memory) (plan : List Item) → P op
     → AreHeldBy P s.blocks → AreHeldBy P (begin_plan l s op plan).blocks
 unfolding begin_plan
 begin-claims l P op s plan le h =
-    claims_fold P (begin_block l op plan) (λ t block k. option-claims P (claim_block l op t block) t
-    (wish_of plan block) (λ wish. claim-claims l P op t block wish le k) k) s (all_blocks l) h
+    claims_fold P (begin_block l op plan) (λ t block k. option_cases (λ (u : Memory). AreHeldBy P u.blocks)
+    (claim_block l op t block) (wish_of plan block) t (λ wish is. claim-claims l P op t block wish le k)
+    (λ none. k)) s (all_blocks l) h
 
 -- a block gets its wish
 grant-claims : (l : LayoutParts) (P : ℕ → Type 0) (s : Memory) (block : ℕ) (wish : Wish)
     → AreHeldBy P s.blocks → AreHeldBy P (grant l s block wish).blocks
-grant-claims l P s block OffWish h = claimed_set P s.blocks.rows block offline_row h tt
-grant-claims l P s block NormalWish h = online-claims l P NormalZone s block h
-grant-claims l P s block MovableWish h = online-claims l P MovableZone s block h
+grant-claims l P s block OffWish h = claimed_set P _ block _ h tt
+grant-claims l P s block _ h = online-claims l P _ s block h
 
 -- an operation commits
 commit-claims : (l : LayoutParts) (P : ℕ → Type 0) (op : ℕ) (s : Memory) → AreHeldBy P s.blocks
     → AreHeldBy P (commit_blocks l s op).blocks
 unfolding commit_blocks
 commit-claims l P op s h =
-    claims_fold P (commit_block l) (λ t block k. option-claims P (λ claim. grant l t block claim.wish) t
-    (row_of t.blocks block).claim (λ claim. grant-claims l P t block claim.wish k) k) s (blocks_of l
-    s.blocks op) h
+    claims_fold P (commit_block l) (λ t block k. option_cases (λ (u : Memory). AreHeldBy P u.blocks)
+    (λ claim. grant l t block claim.wish) (row_of t.blocks block).claim t
+    (λ claim is. grant-claims l P t block claim.wish k) (λ none. k)) s (blocks_of l s.blocks op) h
 
 -- an operation is released
 release-claims : (l : LayoutParts) (P : ℕ → Type 0) (op : ℕ) (s : Memory) → AreHeldBy P s.blocks
     → AreHeldBy P (release_blocks l s op).blocks
 unfolding release_blocks
 release-claims l P op s h =
-    claims_fold P (release_block l) (λ t block k. by_state t block (is_going (row_of t.blocks block)) k) s
-    (blocks_of l s.blocks op) h
-  where
-    by_state : (t : Memory) (block : ℕ) (b : Bool) → AreHeldBy P t.blocks
-        → AreHeldBy P (cond b (online_again l t block)
-        (with_block_row t block (record (row_of t.blocks block) { claim = None }))).blocks
-    by_state t block true k = claimed_set P t.blocks.rows block _ k tt
-    by_state t block false k = claimed_set P t.blocks.rows block _ k tt
+    claims_fold P (release_block l) (λ t block k. cond_both (is_going (row_of t.blocks block)) _ _
+    (λ (u : Memory). AreHeldBy P u.blocks) (λ going. claimed_set P t.blocks.rows block _ k tt)
+    (λ still. claimed_set P t.blocks.rows block _ k tt)) s (blocks_of l s.blocks op) h
 
 -- a block is added
 auto-claims : (l : LayoutParts) (P : ℕ → Type 0) (auto : Auto) (s : Memory) (block : ℕ) → AreHeldBy P s.blocks
     → AreHeldBy P (auto_online l auto s block).blocks
 auto-claims l P OfflineAuto s block h = h
-auto-claims l P MovableAuto s block h = online-claims l P MovableZone s block h
-auto-claims l P _ s block h = online-claims l P NormalZone s block h
+auto-claims l P MovableAuto s block h = online-claims l P _ s block h
+auto-claims l P _ s block h = online-claims l P _ s block h
 
 -- ---- each step
 
 -- what leaves the blocks leaves the claims
 same-claims : (P : ℕ → Type 0) (s : Memory) (blocks : Blocks) → blocks ≡ s.blocks → AreHeldBy P s.blocks
     → AreHeldBy P blocks
-same-claims P s blocks e h = subst (λ (b : Blocks). AreHeldBy P b) (sym e) h
+same-claims P s blocks e h = rw e h
 
 -- an event that is not refused
 perform-claims : (l : LayoutParts) (P : ℕ → Type 0) (s : Memory) (serial cpu : ℕ) (event : Event) → P serial
@@ -180,10 +163,8 @@ perform-claims l P s serial cpu (Begin plan) le h = begin-claims l P serial s pl
 perform-claims l P s serial cpu (Migrate op) le h = same-claims P s _ (migrate_step-blocks l s op) h
 perform-claims l P s serial cpu (Commit op) le h = commit-claims l P op s h
 perform-claims l P s serial cpu (Cancel op) le h = release-claims l P op s h
-perform-claims l P s serial cpu (Probe address) le h =
-    auto-claims l P s.blocks.auto _ (address / block_bytes l)
-    (claimed_set P s.blocks.rows (address / block_bytes l) offline_row h tt)
-perform-claims l P s serial cpu (Remove block) le h = claimed_set P s.blocks.rows block _ h tt
+perform-claims l P s serial cpu (Probe address) le h = auto-claims l P _ _ _ (claimed_set P _ _ _ h tt)
+perform-claims l P s serial cpu (Remove block) le h = claimed_set P _ block _ h tt
 perform-claims l P s serial cpu _ le h = h
 
 -- an event, by its refusal
@@ -197,7 +178,7 @@ answer-claims l P s serial cpu event None le h = perform-claims l P s serial cpu
 pub step-claims : (l : LayoutParts) (P : ℕ → Type 0) (s : Memory) (serial cpu : ℕ) (event : Event) → P serial
     → AreHeldBy P s.blocks → AreHeldBy P (step l s serial cpu event).memory.blocks
 unfolding step
-step-claims l P s serial cpu event le h = answer-claims l P s serial cpu event (refusal_of l s cpu event) le h
+step-claims l P s serial cpu event le h = answer-claims l P s serial cpu event _ le h
 
 -- ---- histories
 
@@ -209,23 +190,21 @@ unfolding run
 run-claims l P s [] low h = h
 run-claims l P s (r ∷ rs) low h =
     run-claims l P (step l s r.serial r.cpu r.event).memory rs (λ i x e. low (suc i) x e)
-    (step-claims l P s r.serial r.cpu r.event (low 0 r refl) h)
+    (step-claims l P s _ r.cpu r.event (low 0 r refl) h)
 
 -- the operations of a legal history have numbers up to its last record's
 pub value-claims : (l : LayoutParts) (base : Memory) (before : ℕ) (h : List Record) → IsLegal l base before h
     → AreClaimedUpTo before base.blocks → AreClaimedUpTo (before + length h) (value_of l base h).blocks
 unfolding value_of
 value-claims l base before h legal claims =
-    run-claims l (λ op. op ≤ before + length h) base (net_of h) (numbered_net l base before h legal).under
-    (held_weaker (λ op. op ≤ before) (λ op. op ≤ before + length h) base.blocks.rows (λ op le. omega arith)
-    claims)
+    run-claims l (λ op. op ≤ before + length h) base _ (numbered_net l base before h legal).under
+    (held_weaker (λ op. op ≤ before) (λ op. op ≤ before + length h) _ (λ op le. omega arith) claims)
 
 -- so a greater number is not live
 pub numbered_others : (last op : ℕ) (blocks : Blocks) → last < op → AreClaimedUpTo last blocks
     → list_any (is_claimed_by op) blocks.rows ≡ false
 numbered_others last op blocks low h =
-    others_live op blocks.rows
-    (held_weaker (λ n. n ≤ last) (λ n. n ≢ op) blocks.rows (λ n le same. absurd (omega arith)) h)
+    others_live op _ (held_weaker (λ n. n ≤ last) (λ n. n ≢ op) _ (λ n le same. absurd (omega arith)) h)
 
 -- no operation holds a block when a machine starts
 replicated : (P : ℕ → Type 0) (n : ℕ) → AllByRecursion (IsHeldBy P) (replicate n offline_row)
@@ -236,12 +215,12 @@ replicated P (suc n) = (tt, replicated P n)
 pub boot-claims : (l : LayoutParts) (P : ℕ → Type 0) → AreHeldBy P (boot_memory l).blocks
 unfolding boot_memory
 boot-claims l P =
-    claims_fold P (λ s entry. boot_block l s entry.0 entry.1) (λ s entry k. by_boot s entry.0 entry.1 k)
-    (empty_memory l) (enumerate_from 0 l.boot) (replicated P l.blocks)
+    claims_fold P (λ s entry. boot_block l s entry.0 entry.1) (λ s entry k. by_boot s _ _ k)
+    (empty_memory l) (enumerate_from 0 l.boot) (replicated P _)
   where
     by_boot : (s : Memory) (block : ℕ) (boot : Boot) → AreHeldBy P s.blocks
         → AreHeldBy P (boot_block l s block boot).blocks
     by_boot s block OfflineBoot k = k
-    by_boot s block NormalBoot k = online-claims l P NormalZone s block k
-    by_boot s block MovableBoot k = online-claims l P MovableZone s block k
-    by_boot s block AbsentBoot k = claimed_set P s.blocks.rows block _ k tt
+    by_boot s block NormalBoot k = online-claims l P _ s block k
+    by_boot s block MovableBoot k = online-claims l P _ s block k
+    by_boot s block AbsentBoot k = claimed_set P _ block _ k tt

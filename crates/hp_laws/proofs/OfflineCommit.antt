@@ -1,6 +1,6 @@
 -- An operation that nothing disturbed commits: each frame of its going blocks is in a free block,
 -- as it is nowhere else.
-use Rattle.std.proofs.Common.{◌≡◌, ◌≢◌, ℕ, zero, suc, ◌+◌, ◌*◌, ◌/◌, ◌%◌, ◌<◌, List, [], ◌∷◌, ◌++◌, length, get_or, Bool, true, false, cond, Option, Some, None, map, slice_get, refl, ap, sym, subst, ◌∙◌, arith, inl, inr, ◌==◌}
+use Rattle.std.proofs.Common.{◌≡◌, ◌≢◌, ℕ, zero, suc, ◌+◌, ◌*◌, ◌/◌, ◌%◌, ◌<◌, List, [], ◌∷◌, ◌++◌, length, get_or, Bool, true, false, cond, Option, Some, None, map, slice_get, refl, ap, sym, ◌∙◌, arith, inl, inr, ◌==◌}
 use Rattle.std.specs.Prelude.{position}
 use Rattle.std.specs.List.{count_by, enumerate_from, list_any, position_from, sum_by}
 use Rattle.std.specs.Option.{option_map, option_map_or, option_or}
@@ -15,11 +15,10 @@ use Rattle.hp_units.specs.declared.rows.Pool.TheVariants.{Nu as NuPool, Nm as Nm
 use Rattle.hp_units.specs.LayoutParts.{LayoutParts, IsLayout}
 use Rattle.hp_units.specs.Arithmetic.{block_of, block_of_pageblock}
 use Rattle.hp_units.specs.Marks.{holds_only_own_work, is_opening, mark_of, tag_of}
-use Rattle.hp_units.specs.Memory.{Blocks, Memory, kernel_order, pool_index, row_of}
+use Rattle.hp_units.specs.Memory.{Memory, kernel_order, pool_index}
 use Rattle.hp_units.specs.History.{IsLegal, is_refused, net_of, reply_of, run, value_of}
 use Rattle.hp_units.specs.Pages.{holds, page_at, page_from}
-use Rattle.hp_units.specs.Refusals.{frame_in_use}
-use Rattle.hp_units.specs.Rows.{is_claimed_by, is_going, is_live}
+use Rattle.hp_units.specs.Rows.{is_live}
 use Rattle.hp_units.specs.Step.{step}
 use Rattle.hp_units.specs.Placement.{IsWellPlaced, cached_places, covers, kernel_places, mapped_places}
 use Rattle.hp_laws.specs.Consequences.{IsFrameOf, IsGoingFor, IsFrameInUse, IsInFreeBlock}
@@ -31,7 +30,7 @@ use Rattle.hp_laws.proofs.Net.{Numbered, run-append}
 use Rattle.hp_laws.proofs.Earlier.{numbered_net}
 use Rattle.hp_laws.proofs.OwnedContents.{AllSucceed}
 use Rattle.hp_laws.proofs.States.{block_of-pageblock}
-use Rattle.hp_lemmas.proofs.KernelBlocks.{kernel_covered}
+use Rattle.hp_units.proofs.KernelBlockFrames.{kernel_covered}
 use Rattle.hp_laws.proofs.EventSteps.{run-placed, step-placed}
 use Rattle.hp_laws.proofs.Commits.{going_plugged}
 use Rattle.hp_laws.proofs.ConsequencesBlocks.{covered_in, free_block}
@@ -67,7 +66,7 @@ pool_of_index (suc (suc (suc n))) low = absurd (omega arith)
 -- where each processor is drained, no frame is on a list
 pub none_cached : (l : LayoutParts) (s : Memory) (frame : ℕ) → IsWellPlaced l s
     → ((cpu : ℕ) → cpu < l.cpus → IsDrained s.free cpu) → cached_places s.free frame ≡ 0
-none_cached l s frame p drained = empty_lists frame s.free.cached each
+none_cached l s frame p drained = empty_lists frame _ each
   where
     each : (i : ℕ) → get_or s.free.cached i [] ≡ []
     each i = elim (cases_lt i (length s.free.cached)) [
@@ -75,8 +74,8 @@ none_cached l s frame p drained = empty_lists frame s.free.cached each
           let pool = pool_of_index (i % 3) (omega arith) in
           let number : 3 * (i / 3) + pool_index pool.0 ≡ i = omega (arith, pool.1) in
           let cpu : i / 3 < l.cpus = omega (arith, p.in_order.shape.cached) in
-          subst (λ (n : ℕ). get_or s.free.cached n [] ≡ []) number (drained (i / 3) cpu pool.0)
-      | inr high ↦ get_or_past s.free.cached i [] high
+          rw (← number) (drained _ cpu pool.0)
+      | inr high ↦ get_or_past _ i [] high
     ]
 
 -- a frame that has no page is in no entry of the table
@@ -84,7 +83,7 @@ no_entry_from : (frame n : ℕ) (row : List (Option ℕ)) → position_from (hol
     → count_by (holds frame) row ≡ 0
 no_entry_from frame n [] e = refl
 no_entry_from frame n (entry ∷ row) e =
-    by_test (holds frame entry) refl e (no_entry_from frame (n + 1) row)
+    by_test _ refl e (no_entry_from frame (n + 1) row)
     (sum_by-cons (λ (x : Option ℕ). one_if (holds frame x)) entry row)
   where
     by_test : (b : Bool) → holds frame entry ≡ b
@@ -100,7 +99,7 @@ no_page : (owner frame : ℕ) (table : List (List (Option ℕ))) → page_from o
     → sum_by (λ row. count_by (holds frame) row) table ≡ 0
 no_page owner frame [] e = refl
 no_page owner frame (row ∷ rows) e =
-    by_position (position (holds frame) row) refl e (no_page (owner + 1) frame rows)
+    by_position _ refl e (no_page (owner + 1) frame rows)
     (sum_by-cons (λ (r : List (Option ℕ)). count_by (holds frame) r) row rows)
   where
     by_position : (o : Option ℕ) → position (holds frame) row ≡ o
@@ -128,7 +127,7 @@ kernel_sum frame n (entry ∷ entries) none =
     let here : kernel_covered frame n entry ≡ 0 = rw (← start) (none 0) in
     let rest =
     kernel_sum frame (n + 1) entries (λ i. (let next : n + suc i ≡ n + 1 + i = omega arith in
-    subst (λ (k : ℕ). kernel_covered frame k (get_or entries i None) ≡ 0) next (none (suc i)))) in
+    rw (← next) (none (suc i)))) in
     omega (
       arith,
       here,
@@ -157,17 +156,14 @@ none_kernel l s op frame p movable h =
           let same : block_of l frame ≡ block_of l first =
           block_of-pageblock l frame ∙ ap (λ (n : ℕ). block_of_pageblock l n)
           (kernel_inside l s first order frame p e within) ∙ sym (block_of-pageblock l first) in
-          absurd (no_order (sym (movable first (moved first same)) ∙ e))
+          absurd (cc (e, movable first (moved first same)))
     ]
       where
         moved : (first : ℕ) → block_of l frame ≡ block_of l first → IsGoingFor l s op first
         moved first same = record {
-          claimed = subst (λ (b : ℕ). is_claimed_by op (row_of s.blocks b) ≡ true) same h.claimed;
-          going = subst (λ (b : ℕ). is_going (row_of s.blocks b) ≡ true) same h.going;
+          claimed = rw (← same) h.claimed;
+          going = rw (← same) h.going;
         }
-
-        no_order : {order : ℕ} → None ≡ Some order → ⊥
-        no_order e = cc
 
 -- so each frame of its going blocks is in a free block
 pub frame_free : (l : LayoutParts) (s : Memory) (op frame : ℕ) → IsWellPlaced l s
@@ -175,13 +171,13 @@ pub frame_free : (l : LayoutParts) (s : Memory) (op frame : ℕ) → IsWellPlace
     → ((first : ℕ) → IsGoingFor l s op first → kernel_order s first ≡ None)
     → page_at s.pages frame ≡ None → IsGoingFor l s op frame → IsInFreeBlock s.free.areas frame
 frame_free l s op frame p drained movable unmapped h =
-    free_block s.free.areas frame (omega (
+    free_block _ frame (omega (
       arith,
       p.once frame,
       none_cached l s frame p drained,
       none_mapped s frame unmapped,
       none_kernel l s op frame p movable h,
-      ap one_if (going_plugged (row_of s.blocks (block_of l frame)).state h.going),
+      ap one_if (going_plugged _ h.going),
     ))
 
 -- ---- the state that the operation's own steps lead to
@@ -197,8 +193,8 @@ record IsReady (l : LayoutParts) (s : Memory) (op : ℕ) : Type 0 where
 going_same : (l : LayoutParts) (s t : Memory) (op frame : ℕ) → t.blocks ≡ s.blocks → IsGoingFor l t op frame
     → IsGoingFor l s op frame
 going_same l s t op frame e h = record {
-  claimed = subst (λ (bs : Blocks). is_claimed_by op (row_of bs (block_of l frame)) ≡ true) e h.claimed;
-  going = subst (λ (bs : Blocks). is_going (row_of bs (block_of l frame)) ≡ true) e h.going;
+  claimed = rw (← e) h.claimed;
+  going = rw (← e) h.going;
 }
 
 -- from its Begin in a state in which no row carries its number
@@ -210,14 +206,14 @@ ready : (l : LayoutParts) (s : Memory) (op cpu : ℕ) (plan : List Item) (work :
     → ((c : ℕ) → c < l.cpus → list_any (λ (r : Record). drains_for op c r.event) work ≡ true)
     → IsReady l (run l (step l s op cpu (Begin plan)).memory work) op
 ready l s op cpu plan work layout p claims good own succeeds drained =
-    let performed = step_performed l s op cpu (Begin plan) good in
+    let performed = step_performed l s op cpu _ good in
     let begun : Memory = (step l s op cpu (Begin plan)).memory in
-    let placed : IsWellPlaced l begun = step-placed l s op cpu (Begin plan) layout p in
+    let placed : IsWellPlaced l begun = step-placed l s op cpu _ layout p in
     let done = own_run l op begun work own succeeds in
     let end : Memory = run l begun work in
     let still : (first : ℕ) → IsGoingFor l begun op first → kernel_order begun first ≡ None =
     rw performed.memory (λ first h. begun_movable l s op plan first layout claims performed.free
-    (subst (λ (t : Memory). IsWellPlaced l t) performed.memory placed) h) in
+    (rw (← performed.memory) placed) h) in
     record {
       placed = run-placed l begun work layout placed;
       drained = λ c low. done.drained c (drained c low);
@@ -231,7 +227,7 @@ ready_done : (l : LayoutParts) (s : Memory) (serial cpu op : ℕ) → IsLayout l
     → ((frame : ℕ) → IsGoingFor l s op frame → page_at s.pages frame ≡ None)
     → (step l s serial cpu (Commit op)).reply ≡ Done
 ready_done l s serial cpu op layout low r moved =
-    by_reply (frame_in_use l s op) (is_live s.blocks op) (λ frame e. found_in_use l s op frame r.placed e)
+    by_reply _ _ (λ frame e. found_in_use l s op frame r.placed e)
     r.live (commit_reply l s serial cpu op layout r.placed low)
   where
     by_reply : (o : Option ℕ) (live : Bool) → ((frame : ℕ) → o ≡ Some frame → IsFrameInUse l s op frame)
@@ -258,7 +254,7 @@ earlier_other : (before last : ℕ) (earlier work : List Record) (begin : Record
 earlier_other before last earlier work begin h i r e =
     let within : i < length earlier = slice_get_within earlier i r e in
     let below : r.serial < begin.serial =
-    h.rising i (length earlier) r begin within (get_left earlier (begin ∷ work) i within ∙ e)
+    h.rising i (length earlier) r begin within (get_left earlier _ i within ∙ e)
     (get_middle earlier work begin) in
     λ same. absurd (omega arith)
 
@@ -268,8 +264,8 @@ pub undisturbed_new : (l : LayoutParts) (base : Memory) (before op : ℕ) (h : L
 undisturbed_new l base before op h s legal u =
     let opens = and_parts (is_opening (mark_of u.begin.event)) (u.begin.serial == op) u.opens in
     let numbered = rw u.steps at (numbered_net l base before h legal) in
-    subst (λ (n : ℕ). before < n) (eqb-true u.begin.serial op opens.1)
-    (numbered.over (length u.earlier) u.begin (get_middle u.earlier u.work u.begin))
+    rw (← eqb-true u.begin.serial op opens.1) (numbered.over (length u.earlier) u.begin
+    (get_middle u.earlier u.work u.begin))
 
 -- the state that an undisturbed operation leads to
 undisturbed_ready : (l : LayoutParts) (base : Memory) (before op : ℕ) (h : List Record) → IsLayout l
@@ -284,13 +280,12 @@ undisturbed_ready l base before op h layout p claims legal u =
     let numbered = rw u.steps at (numbered_net l base before h legal) in
     let start : Memory = run l base u.earlier in
     let succeeds : AllSucceed l start (u.begin ∷ u.work) =
-    succeed_behind l base u.earlier (u.begin ∷ u.work)
-    (subst (λ (n : List Record). AllSucceed l base n) u.steps (net_good l base before h legal)) in
+    succeed_behind l base u.earlier (u.begin ∷ u.work) (rw (← u.steps) (net_good l base before h legal)) in
     let new : AreHeldBy (λ n. n ≢ op) start.blocks =
-    run-claims l (λ n. n ≢ op) base u.earlier (λ i r e. subst (λ (n : ℕ). r.serial ≢ n) serial
-    (earlier_other before (before + length h) u.earlier u.work u.begin numbered i r e)) claims in
+    run-claims l (λ n. n ≢ op) base u.earlier (λ i r e. rw (← serial) (earlier_other before
+    (before + length h) u.earlier u.work u.begin numbered i r e)) claims in
     let whole : run l base (net_of h) ≡ run l start (u.begin ∷ u.work) =
-    ap (run l base) u.steps ∙ run-append l base u.earlier (u.begin ∷ u.work) in
+    rw (u.steps, run-append l base u.earlier (u.begin ∷ u.work)) in
     rw whole (at_begin start u.begin u.work event.0 event.1 serial (run-placed l base u.earlier layout p) new
     succeeds u.own u.drained)
   where
@@ -319,6 +314,5 @@ pub undisturbed_done : (l : LayoutParts) (base : Memory) (before op : ℕ) (h : 
     → r.event ≡ Commit op → r.cpu < l.cpus → IsUndisturbed l (value_of l base h) op (net_of h)
     → r.reply ≡ Done
 undisturbed_done l base before op h r layout p claims legal event low u =
-    commit_step l base before op h r legal event
-    ∙ ready_done l (value_of l base h) (before + length h + 1) r.cpu op layout low
+    commit_step l base before op h r legal event ∙ ready_done l _ _ r.cpu op layout low
     (undisturbed_ready l base before op h layout p claims (front_legal l base before h r legal) u) u.moved

@@ -1,5 +1,5 @@
 -- What an operation's own drains and migrations keep, and which processors' lists they leave empty.
-use Rattle.std.proofs.Common.{◌≡◌, ℕ, zero, suc, ◌+◌, ◌*◌, List, [], ◌∷◌, get_or, set, true, false, Option, Some, None, map, refl, subst, ◌∙◌, inl, inr, ◌==◌, eqb-true}
+use Rattle.std.proofs.Common.{◌≡◌, ℕ, zero, suc, ◌+◌, ◌*◌, List, [], ◌∷◌, get_or, set, true, false, Option, Some, None, map, refl, ◌∙◌, inl, inr, ◌==◌, eqb-true}
 use Rattle.std.specs.List.{list_any}
 use Rattle.std.specs.Option.{option_map_or}
 use Rattle.std.proofs.lemmas.Bool.{and_parts, not-false, or_cases}
@@ -112,12 +112,12 @@ own_perform : (l : LayoutParts) (op : ℕ) (s : Memory) (serial cpu : ℕ) (even
 own_perform l op s serial cpu (DrainFor other drained) own h =
     let same : other ≡ op = eqb-true other op own in
     record {
-      work = drain-work l s drained;
+      work = drain-work l s _;
       drained =
-          λ c e. subst (λ (n : ℕ). IsDrained (drain_lists l s.free drained) n)
-          (eqb-true drained c (and_parts (other == op) (drained == c) e).1) (drained_lists l s.free drained);
+          λ c e. rw (← eqb-true drained c (and_parts (other == op) (drained == c) e).1)
+          (drained_lists l s.free _);
       live =
-          subst (λ (n : ℕ). is_live s.blocks n ≡ true) same (not-false (is_live s.blocks other)
+          rw (← same) (not-false (is_live s.blocks other)
           (then_none _ _ (all_none (event_refusals l s cpu (DrainFor other drained)) h.free).1.0));
     }
 own_perform l op s serial cpu (Migrate other) own h =
@@ -126,7 +126,7 @@ own_perform l op s serial cpu (Migrate other) own h =
       work = migrate-work l s other;
       drained = λ c e. cc;
       live =
-          subst (λ (n : ℕ). is_live s.blocks n ≡ true) same (not-false (is_live s.blocks other)
+          rw (← same) (not-false (is_live s.blocks other)
           (then_none _ _ (all_none (event_refusals l s cpu (Migrate other)) h.free).0));
     }
 own_perform l op s serial cpu _ own h = absurd cc
@@ -158,10 +158,10 @@ own_run l op s [] own good = record { work = work_none s; drained = λ cpu e. cc
 own_run l op s (r ∷ rs) own good =
     let t : Memory = (step l s r.serial r.cpu r.event).memory in
     let parts = and_parts (is_work_of op (mark_of r.event)) (holds_only_own_work op (map tag_of rs)) own in
-    let first = own_step l op s r.serial r.cpu r.event parts.0 good.0 in
+    let first = own_step l op s _ r.cpu _ parts.0 good.0 in
     let rest = own_run l op t rs parts.1 good.1 in
     record {
-      work = work_then s t (run l t rs) first.work rest.work;
+      work = work_then s t _ first.work rest.work;
       drained =
           λ cpu e. elim (or_cases (drains_for op cpu r.event)
           (list_any (λ (x : Record). drains_for op cpu x.event) rs) e) [

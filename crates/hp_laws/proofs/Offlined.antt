@@ -1,34 +1,32 @@
 -- An operation commits: its isolated pageblocks leave the areas, and a block goes offline.
-use Rattle.std.proofs.Common.{◌≡◌, ◌≢◌, ℕ, zero, suc, ◌+◌, ◌*◌, ◌/◌, ◌^◌, ◌<◌, ◌≤◌, List, [], ◌∷◌, length, get_or, set, Bool, true, false, not, cond, Option, Some, None, refl, sym, ◌∙◌, ap, subst, arith, ◌⊎◌, inl, inr, IfSome, length-set, eqb-true, ne_eqb, ◌==◌, ◌||◌}
+use Rattle.std.proofs.Common.{◌≡◌, ◌≢◌, ℕ, zero, suc, ◌+◌, ◌*◌, ◌^◌, ◌<◌, ◌≤◌, List, [], ◌∷◌, length, get_or, set, true, false, not, Option, refl, sym, ◌∙◌, ap, subst, arith, ◌⊎◌, inl, inr, length-set, eqb-true, ne_eqb, ◌==◌}
 use Rattle.std.specs.Prelude.{fold}
 use Rattle.std.specs.List.{range_with_len}
 use Rattle.std.proofs.lemmas.Bool.Decides.{nat_tests}
-use Rattle.std.proofs.lemmas.Bool.{cases_eq, cases_lt, or_cases, or_left}
+use Rattle.std.proofs.lemmas.Bool.{cases_eq, cases_lt, or_cases, or_left, cond_both, or_right}
 use Rattle.std.proofs.lemmas.List.{get_or-set_other, get_or-set_same}
 use Rattle.std.proofs.lemmas.Nat.{mul-le, pow_pos, shl-shr}
 use Rattle.hp_units.specs.declared.rows.Class.{Class}
 use Rattle.hp_units.specs.declared.rows.Kind.{Kind}
-use Rattle.hp_units.specs.declared.rows.Mobility.TheVariants.{Unmovable, Movable}
 use Rattle.hp_units.specs.declared.rows.Row.{Row}
 use Rattle.hp_units.specs.declared.rows.Zone.{Zone}
 use Rattle.hp_units.specs.LayoutParts.{LayoutParts, IsLayout}
 use Rattle.hp_units.specs.Arithmetic.{block_of, block_of_pageblock, pageblock_of}
-use Rattle.hp_units.specs.Memory.{FreeAreas, Memory, free_list, kernel_order, offline_row, plain_kind, row_of, isolated_class}
+use Rattle.hp_units.specs.Memory.{FreeAreas, Memory, free_list, offline_row, plain_kind, row_of, isolated_class}
 use Rattle.hp_units.specs.FreeAreas.{is_on, without, without_free}
 use Rattle.hp_units.specs.Isolation.{remove_block, remove_pageblock}
 use Rattle.hp_units.specs.Rows.{is_going, with_areas, with_block_row}
-use Rattle.hp_units.specs.Placement.{IsInOrder, IsKernelAt, IsRow, IsWellPlaced, cached_places, class_at, free_places, is_unplugged, kernel_places, kind_at, offline_places, row_at}
-use Rattle.hp_lemmas.proofs.Joins.{without_free-places}
+use Rattle.hp_units.specs.Placement.{IsInOrder, IsRow, IsWellPlaced, cached_places, class_at, free_places, is_unplugged, kernel_places, kind_at, offline_places, row_at}
+use Rattle.hp_units.proofs.Joins.{without_free-places}
 use Rattle.hp_laws.specs.Commits.{IsAllFree, IsInRange}
 use Rattle.hp_laws.proofs.Ordered.{AreOrdered}
-use Rattle.hp_lemmas.proofs.Lists.{free_list-cases}
+use Rattle.hp_units.proofs.ListEdits.{free_list-cases}
 use Rattle.hp_laws.proofs.Areas.{has_order, other-ordered, part-ordered}
-use Rattle.hp_lemmas.proofs.Parts.{without-part}
-use Rattle.hp_laws.proofs.States.{areas_of, block_of-pageblock, get_or-cases}
-use Rattle.hp_laws.proofs.Rows.{kernel_some, on_cached, row_at-other}
+use Rattle.hp_units.proofs.ListParts.{without-part}
+use Rattle.hp_laws.proofs.States.{areas_of, block_of-pageblock, get_or-cases, reshaped}
+use Rattle.hp_laws.proofs.Rows.{kernel_some, on_cached, row_at-other, kernel_kept}
 use Rattle.hp_laws.proofs.Onlines.{inside, outside, within, within-split}
 use Rattle.hp_laws.proofs.Isolations.{pageblock_elsewhere, pageblock_range, some_pageblocks}
-use Rattle.hp_laws.proofs.Lists.{one_if}
 
 -- ---- what stays on a list
 
@@ -36,24 +34,11 @@ pub on_without-other : (first block : ℕ) (frames : List ℕ) → first ≢ blo
     → is_on first (without block frames) ≡ true
 on_without-other first block [] ne on = cc
 on_without-other first block (x ∷ xs) ne on = elim (or_cases (x == first) (is_on first xs) on) [
-  | inl same ↦
-      kept_first (x == block) (ne_eqb x block (λ e. ne (sym (eqb-true x first same) ∙ e))) same
-  | inr there ↦ kept_later (x == block) (on_without-other first block xs ne there)
+  | inl same ↦ rw (ne_eqb x block (λ e. ne (sym (eqb-true x first same) ∙ e))) (or_left _ _ same)
+  | inr there ↦
+      let rest = on_without-other first block xs ne there in
+      cond_both (not (x == block)) _ _ (λ ys. is_on first ys ≡ true) (λ _. or_right _ _ rest) (λ _. rest)
 ]
-  where
-    kept_first : (b : Bool) → b ≡ false → (x == first) ≡ true
-        → is_on first (cond (not b) (x ∷ without block xs) (without block xs)) ≡ true
-    kept_first true e same = cc
-    kept_first false e same = or_left (x == first) (is_on first (without block xs)) same
-
-    kept_later : (b : Bool) → is_on first (without block xs) ≡ true
-        → is_on first (cond (not b) (x ∷ without block xs) (without block xs)) ≡ true
-    kept_later true e = e
-    kept_later false e = or_right (x == first) (is_on first (without block xs)) e
-      where
-        or_right : (a b : Bool) → b ≡ true → (a || b) ≡ true
-        or_right true b h = refl
-        or_right false b h = h
 
 -- ---- isolated pageblocks leave the areas
 
@@ -80,10 +65,9 @@ pub remove_one : (l : LayoutParts) (class_at : ℕ → Option Class) (zone : Zon
 remove_one l class_at zone a pageblock short h on =
     let class : Class = isolated_class zone in
     let first : ℕ = pageblock * 2 ^ l.order in
-    let has = has_order l class_at a l.order h (omega arith) in
+    let has = has_order l _ a l.order h (omega arith) in
     let ordered : AreOrdered l class_at (without_free a class l.order first) =
-    part-ordered l class_at a class l.order (without first (free_list a class l.order)) (omega arith)
-    (without-part l.order first (free_list a class l.order)) h in
+    part-ordered l _ a class _ _ (omega arith) (without-part _ first _) h in
     let next : (pageblock + 1) * 2 ^ l.order ≡ pageblock * 2 ^ l.order + 2 ^ l.order = grind arith in
     record {
       ordered =
@@ -93,7 +77,7 @@ remove_one l class_at zone a pageblock short h on =
             blocks = ordered.blocks;
             joined = ordered.joined;
           };
-      places = λ frame. rw next (without_free-places a class l.order first frame has (h.few first) on);
+      places = λ frame. rw next (without_free-places a class _ first frame has (h.few first) on);
       size = length-set a.kinds pageblock plain_kind;
       inside = λ other among. (let same : other ≡ pageblock = omega (arith, among.low, among.high) in
           rw same (get_or-set_same a.kinds pageblock plain_kind plain_kind short));
@@ -101,10 +85,9 @@ remove_one l class_at zone a pageblock short h on =
           λ other away. get_or-set_other a.kinds pageblock other plain_kind plain_kind (apart other away);
       stays =
           λ c o frame away there. free_list-cases (λ (d : Class) (n : ℕ) (xs : List ℕ). is_on frame
-          (free_list a d n) ≡ true → is_on frame xs ≡ true) a class l.order (without first
-          (free_list a class l.order)) has
-          (on_without-other frame first (free_list a class l.order) (λ same. apart (pageblock_of l frame) away
-          (ap (λ (n : ℕ). n / 2 ^ l.order) same ∙ shl-shr pageblock l.order))) (λ d n e. e) c o there;
+          (free_list a d n) ≡ true → is_on frame xs ≡ true) a class _ _ has
+          (on_without-other frame first _ (λ same. apart _ away
+          (rw (same, shl-shr pageblock l.order)))) (λ d n e. e) c o there;
     }
   where
     apart : (other : ℕ) → IsOutside pageblock 1 other → other ≡ pageblock → ⊥
@@ -132,11 +115,10 @@ remove_all l class_at zone a from zero short h on = record {
 remove_all l class_at zone a from (suc count) short h on =
     let b : FreeAreas = remove_pageblock l zone a from in
     let first =
-    remove_one l class_at zone a from (omega arith) h
-    (on from (record { low = omega arith; high = omega arith })) in
-    let rest = remove_all l class_at zone b (from + 1) count (omega (arith, first.size)) first.ordered
+    remove_one l _ zone a from (omega arith) h (on from (record { low = omega arith; high = omega arith })) in
+    let rest = remove_all l _ zone b _ count (omega (arith, first.size)) first.ordered
     (λ pageblock among. first.stays (isolated_class zone) l.order (pageblock * 2 ^ l.order)
-    (inr (subst (λ (n : ℕ). from + 1 ≤ n) (sym (shl-shr pageblock l.order)) among.low))
+    (inr (rw (shl-shr pageblock l.order) among.low))
     (on pageblock (record { low = omega (arith, among.low); high = omega (arith, among.high) }))) in
     let sum : from + 1 + count ≡ from + suc count = omega arith in
     let near : from * 2 ^ l.order ≤ (from + 1) * 2 ^ l.order =
@@ -151,7 +133,7 @@ remove_all l class_at zone a from (suc count) short h on =
             rw sum at (rest.places frame),
             first.places frame,
             within-split frame
-                (from * 2 ^ l.order) ((from + 1) * 2 ^ l.order) ((from + suc count) * 2 ^ l.order) near far,
+                _ _ _ near far,
           );
       size = rest.size ∙ first.size;
       inside = λ pageblock among. elim (cases_lt pageblock (from + 1)) [
@@ -161,10 +143,10 @@ remove_all l class_at zone a from (suc count) short h on =
       ];
       outside =
           λ pageblock away.
-          rest.outside pageblock (after pageblock away) ∙ first.outside pageblock (before pageblock away);
+          rest.outside pageblock (after _ away) ∙ first.outside pageblock (before _ away);
       stays =
-          λ class order frame away there. rest.stays class order frame (after (pageblock_of l frame) away)
-          (first.stays class order frame (before (pageblock_of l frame) away) there);
+          λ class order frame away there. rest.stays class order frame (after _ away)
+          (first.stays class order frame (before _ away) there);
     }
   where
     after : (pageblock : ℕ) → IsOutside from (suc count) pageblock → IsOutside (from + 1) count pageblock
@@ -185,8 +167,7 @@ remove_block-range l s block zone p low all =
     let far : (block + 1) * l.pageblocks ≤ l.blocks * l.pageblocks =
     mul-le (block + 1) l.pageblocks l.blocks l.pageblocks (omega arith) (omega arith) in
     let next : (block + 1) * l.pageblocks ≡ block * l.pageblocks + l.pageblocks = grind arith in
-    remove_all l (class_at l s.free.areas.kinds s.blocks.rows) zone s.free.areas (block * l.pageblocks)
-    l.pageblocks (omega (arith, p.in_order.shape.kinds)) (areas_of l s p) all
+    remove_all l _ zone _ _ _ (omega (arith, p.in_order.shape.kinds)) (areas_of l s p) all
 
 pub offlined-placed : (l : LayoutParts) (s : Memory) (block : ℕ) (zone : Zone) → IsLayout l → IsWellPlaced l s
     → block < l.blocks → is_unplugged (row_of s.blocks block) ≡ false → IsAllFree l s.free.areas zone block
@@ -225,25 +206,15 @@ offlined-placed l s block zone layout p low plugged all =
     let kind_same : (frame : ℕ) → block_of l frame ≢ block
     → kind_at b.kinds (pageblock_of l frame) ≡ kind_at s.free.areas.kinds (pageblock_of l frame) =
     λ frame ne. range.outside (pageblock_of l frame)
-    (pageblock_elsewhere l block (pageblock_of l frame) (λ same. ne (block_of-pageblock l frame ∙ same))) in
+    (pageblock_elsewhere l block _ (λ same. ne (block_of-pageblock l frame ∙ same))) in
     let ordered : AreOrdered l (class_at l b.kinds rows) b =
-    other-ordered l (class_at l s.free.areas.kinds s.blocks.rows) (class_at l b.kinds rows) b
-    (λ first there.
+    other-ordered l _ _ b (λ first there.
     rw (row_same first (away_free first there), kind_same first (away_free first there))) range.ordered in
     record {
       in_order = record {
         shape =
-            record {
-              lists = ordered.lists;
-              kinds = range.size ∙ h.shape.kinds;
-              cached = h.shape.cached;
-              owners = h.shape.owners;
-              pages = h.shape.pages;
-              content_owners = h.shape.content_owners;
-              content_pages = h.shape.content_pages;
-              kernel = h.shape.kernel;
-              rows = length-set s.blocks.rows block offline_row ∙ h.shape.rows;
-            };
+            reshaped l s _ _ _ h.shape ordered.lists (range.size ∙ h.shape.kinds) h.shape.cached
+            h.shape.kernel (length-set s.blocks.rows block offline_row ∙ h.shape.rows);
         blocks = ordered.blocks;
         joined = ordered.joined;
         cached = λ cpu pool frame on.
@@ -251,36 +222,34 @@ offlined-placed l s block zone layout p low plugged all =
             let ne : block_of l frame ≢ block = away frame (omega arith) in
             rw (row_same frame ne, kind_same frame ne) (h.cached cpu pool frame on);
         kernel =
-            λ first.
-            kernel_at first (kernel_order s first) refl (h.kernel first) (away first) (row_same first);
+            λ first. kernel_kept l _ rows first _
+            (λ order e. row_same first (away first (omega (arith, kernel_some s first order e))))
+            (h.kernel first);
         mobility = λ pageblock unmovable. elim (cases_eq (block_of_pageblock l pageblock) block) [
-          | inl same ↦
-              absurd (apart (kind_at b.kinds pageblock)
-              (range.inside pageblock (pageblock_range l block pageblock some same)) unmovable)
+          | inl same ↦ cc (rw (range.inside pageblock (pageblock_range l block _ some same)) at unmovable)
           | inr ne ↦
               rw (get_or-set_other s.blocks.rows block (block_of_pageblock l pageblock) offline_row
               offline_row ne) (h.mobility pageblock (ap (λ (k : Kind). k.mobility)
-              (sym (range.outside pageblock (pageblock_elsewhere l block pageblock ne))) ∙ unmovable))
+              (sym (range.outside pageblock (pageblock_elsewhere l block _ ne))) ∙ unmovable))
         ];
         isolated = λ pageblock. elim (cases_eq (block_of_pageblock l pageblock) block) [
           | inl same ↦
-              rw (range.inside pageblock (pageblock_range l block pageblock some same)) (rw (←
+              rw (range.inside pageblock (pageblock_range l block _ some same)) (rw (←
               (subst (λ (n : ℕ). is_going (get_or rows n offline_row) ≡ false) (sym same) (ap is_going now))))
           | inr ne ↦
-              rw (range.outside pageblock (pageblock_elsewhere l block pageblock ne), h.isolated pageblock)
+              rw (range.outside pageblock (pageblock_elsewhere l block _ ne), h.isolated pageblock)
               (rw (← get_or-set_other s.blocks.rows block (block_of_pageblock l pageblock) offline_row
               offline_row ne))
         ];
         rows =
-            get_or-cases (λ (n : ℕ) (r : Row). IsRow r) s.blocks.rows block offline_row offline_row short
+            get_or-cases (λ (n : ℕ) (r : Row). IsRow r) _ block _ _ short
             (refl, refl) h.rows;
         words = h.words;
       };
       once = λ frame. elim (cases_eq (block_of l frame) block) [
         | inl same ↦
-            let old : offline_places l s frame ≡ 0 = rw same (ap one_if plugged) in
-            let new : offline_places l (with_block_row s block offline_row) frame ≡ 1 =
-            rw same (ap (λ (r : Row). one_if (is_unplugged r)) now) in
+            let old : offline_places l s frame ≡ 0 = rw same (rw plugged) in
+            let new : offline_places l (with_block_row s block offline_row) frame ≡ 1 = rw same (rw now) in
             omega
             (arith, p.once frame, places frame, inside frame (l.pageblocks * 2 ^ l.order) block size same)
         | inr ne ↦
@@ -289,25 +258,3 @@ offlined-placed l s block zone layout p low plugged all =
             omega (arith, p.once frame, places frame, outside frame (l.pageblocks * 2 ^ l.order) block ne)
       ];
     }
-  where
-    apart : (k : Kind) → k ≡ plain_kind → k.mobility ≡ Unmovable → ⊥
-    apart k e u = movable (ap (λ (kind : Kind). kind.mobility) (sym e) ∙ u)
-      where
-        movable : Movable ≡ Unmovable → ⊥
-        movable e = cc
-
-    kernel_at : (first : ℕ) (entry : Option ℕ) → kernel_order s first ≡ entry
-        → IfSome entry (IsKernelAt l s.blocks.rows first)
-        → (1 ≤ cached_places s.free first + kernel_places s first → block_of l first ≢ block)
-        → (block_of l first ≢ block
-        → row_at l (set s.blocks.rows block offline_row) (pageblock_of l first)
-        ≡ row_at l s.blocks.rows (pageblock_of l first))
-        → IfSome entry (IsKernelAt l (set s.blocks.rows block offline_row) first)
-    kernel_at first None e k away same = tt
-    kernel_at first (Some order) e k away same =
-        let some : 1 ≤ kernel_places s first = kernel_some s first order e in
-        record {
-          in_order = k.in_order;
-          aligned = k.aligned;
-          normal = ap (λ (r : Row). r.zone) (same (away (omega arith))) ∙ k.normal;
-        }

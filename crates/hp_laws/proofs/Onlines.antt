@@ -1,5 +1,5 @@
 -- A block goes online.
-use Rattle.std.proofs.Common.{◌≡◌, ◌≢◌, ℕ, zero, suc, ◌+◌, ◌-◌, ◌*◌, ◌/◌, ◌^◌, ◌<◌, ◌≤◌, List, [], ◌∷◌, ◌++◌, length, get_or, set, true, false, cond, Option, Some, None, refl, sym, subst, arith, inl, inr, add-zero, ◌&&◌}
+use Rattle.std.proofs.Common.{◌≡◌, ◌≢◌, ℕ, zero, suc, ◌+◌, ◌-◌, ◌*◌, ◌/◌, ◌^◌, ◌<◌, ◌≤◌, List, [], ◌∷◌, ◌++◌, length, get_or, set, true, false, cond, Option, Some, None, refl, arith, inl, inr, add-zero, ◌&&◌}
 use Rattle.std.specs.Prelude.{fold, nat_le, nat_lt}
 use Rattle.std.specs.List.{range_with_len}
 use Rattle.std.proofs.lemmas.Bool.{cases_eq, cases_lt}
@@ -15,14 +15,14 @@ use Rattle.hp_units.specs.declared.rows.State.TheVariants.{Online as OnlineState
 use Rattle.hp_units.specs.LayoutParts.{LayoutParts, IsLayout}
 use Rattle.hp_units.specs.Arithmetic.{block_of, block_of_pageblock}
 use Rattle.hp_units.specs.Memory.{FreeAreas, Memory, free_list, with_free_list, row_of, offline_row, usable_class, isolated_class}
-use Rattle.hp_units.specs.Isolation.{add_pageblock, add_block}
+use Rattle.hp_units.specs.Isolation.{add_pageblock}
 use Rattle.hp_units.specs.Rows.{with_block_row, online_block}
 use Rattle.hp_units.specs.Placement.{is_unplugged, free_places, offline_places, IsInOrder, IsWellPlaced, class_at, kind_at, covered}
-use Rattle.hp_lemmas.proofs.Places.{with_free_list-places}
+use Rattle.hp_units.proofs.Places.{with_free_list-places}
 use Rattle.hp_laws.proofs.Ordered.{AreOrdered}
-use Rattle.hp_lemmas.proofs.Geometry.{multiple_aligned}
+use Rattle.hp_units.proofs.Geometry.{multiple_aligned}
 use Rattle.hp_laws.proofs.Areas.{has_order, more-ordered}
-use Rattle.hp_lemmas.proofs.Parts.{back-more}
+use Rattle.hp_units.proofs.ListParts.{back-more}
 use Rattle.hp_laws.proofs.States.{areas_of, areas-in_order}
 use Rattle.hp_laws.proofs.Rows.{row-in_order, plain_kinds, HasPlainKinds}
 
@@ -46,7 +46,7 @@ inside frame size block some e =
 pub quotient : (n size q : ℕ) → q * size ≤ n → n < q * size + size → n / size ≡ q
 quotient n size q low high =
     let is : n ≡ q * size + (n - q * size) = omega arith in
-    subst (λ (m : ℕ). m / size ≡ q) (sym is) (div-mul-add q size (n - q * size) (omega arith))
+    rw is (div-mul-add q size (n - q * size) (omega arith))
 
 pub outside : (frame size block : ℕ) → frame / size ≢ block
     → within frame (block * size) (block * size + size) ≡ 0
@@ -156,13 +156,12 @@ online_block-placed l zone s block layout p off low =
     let end : (block * l.pageblocks + l.pageblocks) * 2 ^ l.order
     ≡ block * (l.pageblocks * 2 ^ l.order) + l.pageblocks * 2 ^ l.order =
     grind arith in
-    let size : 0 < l.pageblocks * 2 ^ l.order =
-    rw is (mul_some (2 ^ k) (2 ^ l.order) pos (pow_pos l.order)) in
+    let size : 0 < l.pageblocks * 2 ^ l.order = rw is (mul_some (2 ^ k) _ pos (pow_pos l.order)) in
     let classes : (pageblock : ℕ) → block * l.pageblocks ≤ pageblock
     → pageblock < block * l.pageblocks + l.pageblocks
     → class_at l s.free.areas.kinds rows pageblock ≡ Some (usable_class zone Movable) =
     λ pageblock from to.
-    let here : block_of_pageblock l pageblock ≡ block = quotient pageblock l.pageblocks block from to in
+    let here : block_of_pageblock l pageblock ≡ block = quotient _ _ block from to in
     let now : get_or rows (block_of_pageblock l pageblock) offline_row ≡ row =
     rw here (get_or-set_same s.blocks.rows block row offline_row short) in
     rw now (rw (online_class s.free.areas.kinds zone (kind_at s.free.areas.kinds pageblock)
@@ -183,12 +182,11 @@ online_block-placed l zone s block layout p off low =
           omega (arith, outside frame (l.pageblocks * 2 ^ l.order) block ne)
     ] in
     let added =
-    add_all-ordered l (class_at l s.free.areas.kinds rows) zone s.free.areas (block * l.pageblocks)
-    l.pageblocks areas classes
+    add_all-ordered l _ zone _ _ _ areas classes
     (λ frame. rw (start, end) (omega (arith, p.once frame, offline frame))) in
     record {
       in_order =
-          areas-in_order l (with_block_row s block row) (add_block l zone s.free.areas block) before
+          areas-in_order l _ _ before
           added.ordered added.kinds;
       once = λ frame. omega (arith, rw (start, end) at (added.places frame), p.once frame, offline frame);
     }

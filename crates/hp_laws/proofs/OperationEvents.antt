@@ -1,8 +1,8 @@
 -- What an event makes of the rows of the blocks that an operation holds.
-use Rattle.std.proofs.Common.{◌≡◌, ◌≢◌, ℕ, ◌<◌, List, length, get_or, set, Bool, true, false, cond, Option, Some, None, refl, ap, sym, subst, ◌∙◌, arith, inl, inr, length-set, eq-eqb, eqb-true, ne_eqb, ◌==◌}
+use Rattle.std.proofs.Common.{◌≡◌, ◌≢◌, ℕ, ◌<◌, List, length, get_or, set, Bool, true, false, cond, Option, Some, None, refl, sym, ◌∙◌, arith, inl, inr, length-set, eq-eqb, eqb-true, ne_eqb, ◌==◌}
 use Rattle.std.specs.Prelude.{find}
 use Rattle.std.specs.Option.{option_map, option_map_or}
-use Rattle.std.proofs.lemmas.Bool.{both_ways, cases_eq}
+use Rattle.std.proofs.lemmas.Bool.{both_ways, cases_eq, cases_Bool}
 use Rattle.std.proofs.lemmas.List.{get_or-set_other, get_or-set_same}
 use Rattle.hp_units.specs.declared.plans.Item.{Item}
 use Rattle.hp_units.specs.declared.rows.Auto.{Auto}
@@ -14,10 +14,9 @@ use Rattle.hp_units.specs.declared.rows.State.TheVariants.{Online as OnlineState
 use Rattle.hp_units.specs.declared.rows.Wish.{Wish}
 use Rattle.hp_units.specs.declared.rows.Wish.TheVariants.{Off as OffWish, Normal as NormalWish, Movable as MovableWish}
 use Rattle.hp_units.specs.declared.rows.Zone.{Zone}
-use Rattle.hp_units.specs.declared.rows.Zone.TheVariants.{Normal as NormalZone, Movable as MovableZone}
 use Rattle.hp_units.specs.LayoutParts.{LayoutParts}
 use Rattle.hp_units.specs.Choices.{first_some}
-use Rattle.hp_units.specs.Memory.{Blocks, Memory, offline_row, row_of}
+use Rattle.hp_units.specs.Memory.{Memory, offline_row, row_of}
 use Rattle.hp_units.specs.Migrations.{migration_source, migration_target}
 use Rattle.hp_units.specs.Refusals.{plan_refusals}
 use Rattle.hp_units.specs.Rows.{is_absent, is_absent_state, is_claimed, is_claimed_by, begin_plan, commit_blocks, online_block, release_blocks, with_block_row, is_going, wish_of}
@@ -28,7 +27,7 @@ use Rattle.hp_laws.proofs.Names.{Event, Begin, Commit, Cancel}
 use Rattle.hp_laws.proofs.EventSteps.{not_there}
 use Rattle.hp_laws.proofs.Options.{found_fails, found_passes, map_none}
 use Rattle.hp_laws.proofs.OwnedContents.{all_none}
-use Rattle.hp_laws.proofs.OperationRows.{begin-row, begun_row, commit-row, committed_row, release-row, released_row, row_with}
+use Rattle.hp_laws.proofs.OperationRows.{begin-row, begun_row, commit-row, committed_row, release-row, released_row}
 use Rattle.hp_laws.proofs.StepBlocks.{answered-blocks}
 
 -- ---- a row and what a step makes of it
@@ -43,19 +42,19 @@ pub row_stays : (op serial : ℕ) (event : Event) (old new : Row) → new ≡ ol
     → IsRowStep op serial event old new
 row_stays op serial event old new same = record {
   kept = λ mine stays. same;
-  free = λ unclaimed ne. ap (is_claimed_by op) same ∙ unclaimed;
+  free = λ unclaimed ne. rw (same, unclaimed);
 }
 
 pub no_claim : (op : ℕ) (claim : Option Claim) → claim ≡ None
     → option_map_or (λ c. c.op == op) claim false ≡ false
-no_claim op claim e = ap (λ (o : Option Claim). option_map_or (λ c. c.op == op) o false) e
+no_claim op claim e = rw e
 
 -- a row without a claim may become any other without one
 row_free : (op serial : ℕ) (event : Event) (old new : Row) → old.claim ≡ None → new.claim ≡ None
     → IsRowStep op serial event old new
 row_free op serial event old new was is = record {
-  kept = λ mine stays. absurd (both_ways (is_claimed_by op old) (no_claim op old.claim was) mine);
-  free = λ unclaimed ne. no_claim op new.claim is;
+  kept = λ mine stays. absurd (both_ways (is_claimed_by op old) (no_claim op _ was) mine);
+  free = λ unclaimed ne. no_claim op _ is;
 }
 
 rows_trans : (op serial : ℕ) (event : Event) (old mid new : Row) → IsRowStep op serial event old mid
@@ -63,12 +62,12 @@ rows_trans : (op serial : ℕ) (event : Event) (old mid new : Row) → IsRowStep
 rows_trans op serial event old mid new h k = record {
   kept = λ mine stays.
       let first : mid ≡ old = h.kept mine stays in
-      k.kept (ap (is_claimed_by op) first ∙ mine) stays ∙ first;
+      k.kept (rw (first, mine)) stays ∙ first;
   free = λ unclaimed ne. k.free (h.free unclaimed ne) ne;
 }
 
 pub without_claim : (row : Row) → is_claimed row ≡ false → row.claim ≡ None
-without_claim row e = not_there row.claim e
+without_claim row e = not_there _ e
 
 -- one row is set, which has no claim before and after
 pub set_free : (op serial : ℕ) (event : Event) (rows : List Row) (at block : ℕ) (row : Row)
@@ -79,11 +78,8 @@ set_free op serial event rows at block row short was is = elim (cases_eq block a
   | inl same ↦
       let here : get_or (set rows at row) block offline_row ≡ row =
       rw (← same) (get_or-set_same rows block row offline_row short) in
-      row_free op serial event (get_or rows block offline_row) (get_or (set rows at row) block offline_row)
-      (ap (λ (b : ℕ). (get_or rows b offline_row).claim) same ∙ was) (ap (λ (r : Row). r.claim) here ∙ is)
-  | inr ne ↦
-      row_stays op serial event (get_or rows block offline_row) (get_or (set rows at row) block offline_row)
-      (get_or-set_other rows at block row offline_row ne)
+      row_free op serial event _ _ (rw (same, was)) (rw (here, is))
+  | inr ne ↦ row_stays op serial event _ _ (get_or-set_other rows at block row offline_row ne)
 ]
 
 -- ---- events that leave the rows
@@ -95,12 +91,6 @@ migrate_step-blocks l s op =
     answered-blocks _ s (migration_source l s op)
     (λ from. answered-blocks _ s (migration_target l s.free.areas) (λ taken. refl))
 
-pub blocks_stay : (op serial : ℕ) (event : Event) (s t : Memory) (block : ℕ) → t.blocks ≡ s.blocks
-    → IsRowStep op serial event (row_of s.blocks block) (row_of t.blocks block)
-blocks_stay op serial event s t block same =
-    row_stays op serial event (row_of s.blocks block) (row_of t.blocks block)
-    (ap (λ (bs : Blocks). row_of bs block) same)
-
 -- ---- events that change rows
 
 -- a block goes online, or is added, or removed
@@ -110,18 +100,16 @@ pub online_block-row : (l : LayoutParts) (op serial : ℕ) (event : Event) (zone
     → IsRowStep op serial event (row_of s.blocks block) (row_of (online_block l zone s at).blocks block)
 unfolding online_block
 online_block-row l op serial event zone s at block short was =
-    set_free op serial event s.blocks.rows at block
+    set_free op serial event _ at block
     (record { state = OnlineState; zone = Some zone; claim = None }) short was refl
 
 auto-row : (l : LayoutParts) (op serial : ℕ) (event : Event) (auto : Auto) (s : Memory) (at block : ℕ)
     → block < length s.blocks.rows → (row_of s.blocks at).claim ≡ None
     → IsRowStep op serial event (row_of s.blocks block) (row_of (auto_online l auto s at).blocks block)
-auto-row l op serial event OfflineAuto s at block short was =
-    row_stays op serial event (row_of s.blocks block) (row_of s.blocks block) refl
+auto-row l op serial event OfflineAuto s at block short was = row_stays op serial event _ _ refl
 auto-row l op serial event MovableAuto s at block short was =
-    online_block-row l op serial event MovableZone s at block short was
-auto-row l op serial event _ s at block short was = online_block-row l op serial event NormalZone s at block
-    short was
+    online_block-row l op serial event _ s at block short was
+auto-row l op serial event _ s at block short was = online_block-row l op serial event _ s at block short was
 
 absent_claim : (state : State) (zone : Option Zone) (claim : Option Claim) → is_absent_state state ≡ true
     → IsRowOf state zone claim → claim ≡ None
@@ -135,14 +123,12 @@ pub probe-row : (l : LayoutParts) (op serial : ℕ) (event : Event) (s : Memory)
     (row_of (auto_online l s.blocks.auto (with_block_row s at offline_row) at).blocks block)
 probe-row l op serial event s at block p low absent short =
     let old : Row = row_of s.blocks at in
-    let was : old.claim ≡ None = absent_claim old.state old.zone old.claim absent (p.in_order.rows at) in
+    let was : old.claim ≡ None = absent_claim _ _ _ absent (p.in_order.rows at) in
     let there : row_of (with_block_row s at offline_row).blocks at ≡ offline_row =
     get_or-set_same s.blocks.rows at offline_row offline_row (omega (arith, p.in_order.shape.rows)) in
-    rows_trans op serial event (row_of s.blocks block) (row_of (with_block_row s at offline_row).blocks block)
-    (row_of (auto_online l s.blocks.auto (with_block_row s at offline_row) at).blocks block)
-    (set_free op serial event s.blocks.rows at block offline_row short was refl)
-    (auto-row l op serial event s.blocks.auto (with_block_row s at offline_row) at block
-    (omega (arith, length-set s.blocks.rows at offline_row)) (ap (λ (r : Row). r.claim) there))
+    rows_trans op serial event _ _ _ (set_free op serial event _ at block offline_row short was refl)
+    (auto-row l op serial event _ _ at block
+    (omega (arith, length-set s.blocks.rows at offline_row)) (rw there))
 
 -- an operation begins: it claims rows that had no claim
 claims_it : (op serial : ℕ) (row : Row) (wish : Wish) → serial ≢ op
@@ -156,8 +142,7 @@ pub plan_free : (l : LayoutParts) (s : Memory) (plan : List Item) (block : ℕ) 
     → first_some (plan_refusals l s plan) ≡ None → wish_of plan block ≡ Some wish
     → is_claimed (row_of s.blocks block) ≡ false
 plan_free l s plan block wish e is =
-    by_item (find (λ item. item.block == block) plan) refl is (map_none _ (find
-    (λ item. is_claimed (row_of s.blocks item.block)) plan) (all_none (plan_refusals l s plan) e).1.1.1.0)
+    by_item _ refl is (map_none _ _ (all_none (plan_refusals l s plan) e).1.1.1.0)
   where
     by_item : (o : Option Item) → find (λ item. item.block == block) plan ≡ o
         → option_map (λ item. item.wish) o ≡ Some wish
@@ -167,7 +152,7 @@ plan_free l s plan block wish e is =
     by_item (Some item) found f none =
         let same : item.block ≡ block =
         eqb-true item.block block (found_passes (λ i. i.block == block) plan item found) in
-        subst (λ (b : ℕ). is_claimed (row_of s.blocks b) ≡ false) same (found_fails
+        rw (← same) (found_fails
         (λ i. is_claimed (row_of s.blocks i.block)) (λ i. i.block == block) plan item none found)
 
 pub begin_step-row : (l : LayoutParts) (op serial : ℕ) (s : Memory) (plan : List Item) (block : ℕ)
@@ -175,16 +160,15 @@ pub begin_step-row : (l : LayoutParts) (op serial : ℕ) (s : Memory) (plan : Li
     → IsRowStep op serial (Begin plan) (row_of s.blocks block)
     (row_of (begin_plan l s serial plan).blocks block)
 begin_step-row l op serial s plan block low shape e =
-    rw (begin-row l s serial plan block low shape) (by_wish (wish_of plan block) refl)
+    rw (begin-row l s serial plan block low shape) (by_wish _ refl)
   where
     by_wish : (o : Option Wish) → wish_of plan block ≡ o
         → IsRowStep op serial (Begin plan) (row_of s.blocks block)
         (begun_row serial o (row_of s.blocks block))
-    by_wish None is = row_stays op serial (Begin plan) (row_of s.blocks block) (row_of s.blocks block) refl
+    by_wish None is = row_stays op serial _ _ _ refl
     by_wish (Some wish) is = record {
       kept =
-          λ mine stays. absurd (both_ways (is_claimed_by op (row_of s.blocks block)) (no_claim op
-          (row_of s.blocks block).claim
+          λ mine stays. absurd (both_ways (is_claimed_by op (row_of s.blocks block)) (no_claim op _
           (without_claim (row_of s.blocks block) (plan_free l s plan block wish e is))) mine);
       free = λ unclaimed ne. claims_it op serial (row_of s.blocks block) wish ne;
     }
@@ -204,22 +188,16 @@ ended_row : (op other serial : ℕ) (event : Event) (old new : Row) → ends op 
     → IsRowStep op serial event old (cond b new old)
 ended_row op other serial event old new is none false e = row_stays op serial event old old refl
 ended_row op other serial event old new is none true e = record {
-  kept = λ mine stays. absurd (no_end op other (one_claim op other old.claim mine e) (sym is ∙ stays));
-  free = λ unclaimed ne. no_claim op new.claim none;
+  kept = λ mine stays. absurd (no_end op other (one_claim op other _ mine e) (sym is ∙ stays));
+  free = λ unclaimed ne. no_claim op _ none;
 }
 
 wished_claim : (wish : Wish) → (wished_row wish).claim ≡ None
 wished_claim OffWish = refl
-wished_claim NormalWish = refl
-wished_claim MovableWish = refl
+wished_claim _ = refl
 
 pub released_claim : (row : Row) → (released_row row).claim ≡ None
-released_claim row = by_state (is_going row)
-  where
-    by_state : (b : Bool)
-        → (cond b (row_with OnlineState row.zone None) (row_with row.state row.zone None)).claim ≡ None
-    by_state true = refl
-    by_state false = refl
+released_claim row = elim (cases_Bool (is_going row)) [ inl e ↦ rw e | inr e ↦ rw e ]
 
 -- a row that is claimed has a claim with that operation's number
 claimed_some : (op : ℕ) (claim : Option Claim) → option_map_or (λ c. c.op == op) claim false ≡ true
@@ -229,22 +207,21 @@ claimed_some op (Some c) e = (c, refl)
 
 pub committed_claim : (op : ℕ) (row : Row) → is_claimed_by op row ≡ true → (committed_row row).claim ≡ None
 committed_claim op row mine =
-    let c = claimed_some op row.claim mine in
-    rw c.1 (wished_claim c.0.wish)
+    let c = claimed_some op _ mine in
+    rw c.1 (wished_claim _)
 
 ended_committed : (op other serial : ℕ) (old : Row) (b : Bool) → is_claimed_by other old ≡ b
     → IsRowStep op serial (Commit other) old (cond b (committed_row old) old)
-ended_committed op other serial old false e = row_stays op serial (Commit other) old old refl
+ended_committed op other serial old false e = row_stays op serial _ old old refl
 ended_committed op other serial old true e =
-    ended_row op other serial (Commit other) old (committed_row old) refl (committed_claim other old e) true e
+    ended_row op other serial _ old _ refl (committed_claim other old e) true e
 
 pub commit_step-row : (l : LayoutParts) (op serial other : ℕ) (s : Memory) (block : ℕ) → block < l.blocks
     → length s.blocks.rows ≡ l.blocks
     → IsRowStep op serial (Commit other) (row_of s.blocks block)
     (row_of (commit_blocks l s other).blocks block)
 commit_step-row l op serial other s block low shape =
-    rw (commit-row l s other block low shape) (ended_committed op other serial (row_of s.blocks block)
-    (is_claimed_by other (row_of s.blocks block)) refl)
+    rw (commit-row l s other block low shape) (ended_committed op other serial _ _ refl)
 
 pub cancel_step-row : (l : LayoutParts) (op serial other : ℕ) (s : Memory) (block : ℕ) → block < l.blocks
     → length s.blocks.rows ≡ l.blocks

@@ -26,8 +26,8 @@ pub begin_in : (l : LayoutParts) (base : Memory) (n : List Record) (place : ℕ)
     → AllGood l base n → BeginsAt n place b plan
     → IsBeginOf l (old_in l base n place) (new_in l base n place) b.serial plan
 begin_in l base n place b plan good at =
-    rw (take_next n place b at.here, run-push l base (take place n) b, at.opens)
-    (begin-good l (old_in l base n place) b.serial b.cpu plan (rw (← at.opens) (good place b at.here)))
+    rw (take_next n place b at.here, run-push l base _ b, at.opens)
+    (begin-good l _ _ b.cpu plan (rw (← at.opens) (good place b at.here)))
 
 -- and claimed the blocks of its plan
 pub begun_in : (l : LayoutParts) (base : Memory) (n : List Record) (place : ℕ) (b : Record) (plan : List Item)
@@ -36,15 +36,12 @@ pub begun_in : (l : LayoutParts) (base : Memory) (n : List Record) (place : ℕ)
 begun_in l base n place b plan layout p good at =
     let opens : IsBeginOf l (old_in l base n place) (new_in l base n place) b.serial plan =
     begin_in l base n place b plan good at in
-    rw opens.memory (plan-begun l (old_in l base n place) b.serial plan
-    (run-placed l base (take place n) layout p) opens.fine)
+    rw opens.memory (plan-begun l _ _ plan (run-placed l base _ layout p) opens.fine)
 
 -- the state after all steps, from the one after the step at a place
 rest_in : (l : LayoutParts) (base : Memory) (n : List Record) (place : ℕ)
     → run l base n ≡ run l (new_in l base n place) (drop (suc place) n)
-rest_in l base n place =
-    ap (run l base) (sym (take-append-drop (suc place) n))
-    ∙ run-append l base (take (suc place) n) (drop (suc place) n)
+rest_in l base n place = ap (run l base) (sym (take-append-drop (suc place) n)) ∙ run-append l base _ _
 
 -- an operation that no step ends holds its rows
 pub held_in : (l : LayoutParts) (base : Memory) (n : List Record) (place : ℕ) (b : Record) (plan : List Item)
@@ -52,9 +49,8 @@ pub held_in : (l : LayoutParts) (base : Memory) (n : List Record) (place : ℕ) 
     → IsOpenBehind b.serial place n
     → AreBegun b.serial (old_in l base n place) (run l base n) plan
 held_in l base n place b plan layout p good at stays =
-    rw (rest_in l base n place)
-    (run-held l (new_in l base n place) b.serial (old_in l base n place) plan (drop (suc place) n) layout
-    (run-placed l base (take (suc place) n) layout p) stays (begun_in l base n place b plan layout p good at))
+    rw (rest_in l base n place) (run-held l _ _ _ plan _ layout
+    (run-placed l base _ layout p) stays (begun_in l base n place b plan layout p good at))
 
 -- and each holds its rows or is over, after all steps
 pub phase_in : (l : LayoutParts) (base : Memory) (before last : ℕ) (n : List Record) (place : ℕ) (b : Record)

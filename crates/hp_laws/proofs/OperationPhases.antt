@@ -1,10 +1,9 @@
 -- The rows of an operation's blocks, from its Begin to its end.
-use Rattle.std.proofs.Common.{◌≡◌, ◌≢◌, ℕ, zero, suc, ◌<◌, ◌≤◌, List, [], ◌∷◌, drop, get_or, Bool, true, false, cond, Option, Some, None, slice_get, refl, ap, sym, subst, ◌∙◌, arith, ◌⊎◌, inl, inr, IfSome, eq-eqb, ◌==◌, ◌||◌}
-use Rattle.std.specs.Prelude.{find, nat_le}
-use Rattle.std.specs.Bool.{then_some}
+use Rattle.hp_laws.proofs.OfflineNet.{step_performed}
+use Rattle.std.proofs.Common.{◌≡◌, ◌≢◌, ℕ, zero, suc, ◌<◌, ◌≤◌, List, [], ◌∷◌, drop, get_or, true, false, cond, Option, Some, None, slice_get, refl, sym, subst, ◌∙◌, arith, ◌⊎◌, inl, inr, IfSome, eq-eqb, ◌==◌}
+use Rattle.std.specs.Prelude.{nat_le}
 use Rattle.std.specs.List.{AllByRecursion, list_any}
-use Rattle.std.specs.Option.{option_map}
-use Rattle.std.proofs.lemmas.Bool.{both_ways, cases_Bool, leb-false, ne_eqb, not-false, or_left}
+use Rattle.std.proofs.lemmas.Bool.{both_ways, cases_Bool, leb-false, ne_eqb, not-false, or_left, or_parts, or_right, or_from}
 use Rattle.hp_units.specs.declared.plans.Item.{Item}
 use Rattle.hp_units.specs.declared.rows.Claim.{Claim}
 use Rattle.hp_units.specs.declared.rows.Row.{Row}
@@ -16,17 +15,17 @@ use Rattle.hp_units.specs.LayoutParts.{LayoutParts, IsLayout}
 use Rattle.hp_units.specs.Choices.{first_some}
 use Rattle.hp_units.specs.Memory.{Memory, offline_row, row_of}
 use Rattle.hp_units.specs.FreeAreas.{is_on}
-use Rattle.hp_units.specs.Refusals.{event_refusals, first_repeated, plan_refusals, refusal_of}
+use Rattle.hp_units.specs.Refusals.{event_refusals, first_repeated, plan_refusals}
 use Rattle.hp_units.specs.Rows.{begin_plan, claimed_row, commit_blocks, is_claimed, is_claimed_by, is_going_state, is_live, is_offline, is_offline_state, is_online_state, release_blocks, wish_of}
-use Rattle.hp_units.specs.Step.{answer, step}
+use Rattle.hp_units.specs.Step.{step}
 use Rattle.hp_units.specs.History.{is_refused, run}
 use Rattle.hp_units.specs.Placement.{IsWellPlaced}
 use Rattle.hp_laws.specs.Operations.{ends, wished_row}
-use Rattle.hp_laws.proofs.Names.{Record, Event, Refusal, NoCpu, Twice, Begin, Commit, Cancel}
+use Rattle.hp_laws.proofs.Names.{Record, Event, Twice, Begin, Commit, Cancel}
 use Rattle.hp_laws.proofs.Claims.{MayClaim, plan_claims}
-use Rattle.hp_laws.proofs.Options.{map_none}
+use Rattle.hp_laws.proofs.Options.{map_none, cond_none}
 use Rattle.hp_laws.proofs.EventSteps.{not_there, step-placed, then_none}
-use Rattle.hp_laws.proofs.OwnedContents.{all_none, none_rest}
+use Rattle.hp_laws.proofs.OwnedContents.{all_none}
 use Rattle.hp_laws.proofs.OperationRows.{begin-row, commit-row, committed_row, release-row, released_row, row_with}
 use Rattle.hp_laws.proofs.OperationSteps.{IsOver, claimed_low, step-ends, step-over, step-row}
 use Rattle.hp_laws.proofs.OperationEvents.{plan_free}
@@ -59,21 +58,9 @@ unseen : (before : List ℕ) (plan : List Item) (block : ℕ) → first_repeated
     → is_on block before ≡ true → AllByRecursion (λ item. item.block ≢ block) plan
 unseen before [] block e on = tt
 unseen before (item ∷ plan) block e on =
-    by_test (λ f there. unseen (item.block ∷ before) plan block f there) (is_on item.block before) refl e
-  where
-    right : (a b : Bool) → b ≡ true → (a || b) ≡ true
-    right true b h = refl
-    right false b h = h
-
-    by_test : (first_repeated (item.block ∷ before) plan ≡ None → is_on block (item.block ∷ before) ≡ true
-        → AllByRecursion (λ i. i.block ≢ block) plan)
-        → (b : Bool) → is_on item.block before ≡ b
-        → cond b (Some item.block) (first_repeated (item.block ∷ before) plan) ≡ None
-        → (item.block ≢ block) × AllByRecursion (λ i. i.block ≢ block) plan
-    by_test rest true is f = absurd cc
-    by_test rest false is f = (
-      λ same. both_ways (is_on item.block before) is (ap (λ (b : ℕ). is_on b before) same ∙ on),
-      rest f (right (item.block == block) (is_on block before) on),
+    let fresh = cond_none _ _ _ e in (
+      λ same. both_ways (is_on item.block before) fresh.0 (rw same on),
+      unseen _ plan block fresh.1 (or_right _ _ on),
     )
 
 -- so each item is the one that is found for its block
@@ -81,48 +68,23 @@ found_wishes : (before : List ℕ) (plan : List Item) → first_repeated before 
     → AllByRecursion (λ item. wish_of plan item.block ≡ Some item.wish) plan
 found_wishes before [] e = tt
 found_wishes before (item ∷ plan) e =
-    by_test (λ f. found_wishes (item.block ∷ before) plan f) (is_on item.block before) e
-  where
-    first : wish_of (item ∷ plan) item.block ≡ Some item.wish
-    first =
-        ap (λ (b : Bool). option_map (λ i. i.wish)
-        (cond b (Some item) (find (λ i. i.block == item.block) plan))) (eq-eqb item.block item.block refl)
-
-    later : (other : Item) → other.block ≢ item.block → wish_of plan other.block ≡ Some other.wish
-        → wish_of (item ∷ plan) other.block ≡ Some other.wish
-    later other ne is =
-        ap (λ (b : Bool). option_map (λ i. i.wish)
-        (cond b (Some item) (find (λ i. i.block == other.block) plan))) (ne_eqb item.block other.block
-        (λ same. ne (sym same))) ∙ is
-
-    by_test : (first_repeated (item.block ∷ before) plan ≡ None
-        → AllByRecursion (λ i. wish_of plan i.block ≡ Some i.wish) plan)
-        → (b : Bool)
-        → cond b (Some item.block) (first_repeated (item.block ∷ before) plan) ≡ None
-        → (wish_of (item ∷ plan) item.block ≡ Some item.wish)
-        × AllByRecursion (λ i. wish_of (item ∷ plan) i.block ≡ Some i.wish) plan
-    by_test rest true f = absurd cc
-    by_test rest false f = (
-      first,
+    let fresh = cond_none _ _ _ e in
+    let same : (item.block == item.block) ≡ true = eq-eqb item.block item.block refl in (
+      rw same,
       each_both (λ (i : Item). i.block ≢ item.block) (λ (i : Item). wish_of plan i.block ≡ Some i.wish)
-          (λ (i : Item). wish_of (item ∷ plan) i.block ≡ Some i.wish) later plan
-          (unseen (item.block ∷ before) plan item.block f (or_left (item.block == item.block)
-          (is_on item.block before) (eq-eqb item.block item.block refl))) (rest f),
+          (λ (i : Item). wish_of (item ∷ plan) i.block ≡ Some i.wish)
+          (λ other ne is. rw (ne_eqb item.block other.block (λ e. ne (sym e))) is) plan
+          (unseen _ plan _ fresh.1 (or_left _ _ same))
+          (found_wishes (item.block ∷ before) plan fresh.1),
     )
 
 -- the blocks of a plan that names none past the last
 within : (l : LayoutParts) (plan : List Item) → list_any (λ item. nat_le l.blocks item.block) plan ≡ false
     → AllByRecursion (λ item. item.block < l.blocks) plan
 within l [] e = tt
-within l (item ∷ plan) e = by_test (λ f. within l plan f) (nat_le l.blocks item.block) refl e
-  where
-    by_test : (list_any (λ i. nat_le l.blocks i.block) plan ≡ false
-        → AllByRecursion (λ i. i.block < l.blocks) plan)
-        → (b : Bool) → nat_le l.blocks item.block ≡ b
-        → (b || list_any (λ i. nat_le l.blocks i.block) plan) ≡ false
-        → (item.block < l.blocks) × AllByRecursion (λ i. i.block < l.blocks) plan
-    by_test rest true is f = absurd cc
-    by_test rest false is f = (leb-false l.blocks item.block is, rest f)
+within l (item ∷ plan) e =
+    let parts = or_parts (nat_le l.blocks item.block) _ e in
+    (leb-false l.blocks item.block parts.0, within l plan parts.1)
 
 -- ---- an operation that began and has not ended
 
@@ -148,11 +110,11 @@ plan-begun l s op plan p e =
     begun : (item : Item) → wish_of plan item.block ≡ Some item.wish → item.block < l.blocks
         → IsBegun op s (begin_plan l s op plan) item
     begun item is low = record {
-      free = plan_free l s plan item.block item.wish e is;
+      free = plan_free l s plan _ _ e is;
       may =
           subst (λ (o : Option Wish). IfSome o (MayClaim (row_of s.blocks item.block))) is
-          (plan_claims l s plan e item.block);
-      held = rw (begin-row l s op plan item.block low p.in_order.shape.rows, is);
+          (plan_claims l s plan e _);
+      held = rw (begin-row l s op plan _ low p.in_order.shape.rows, is);
     }
 
 claims : (op : ℕ) (row : Row) (wish : Wish) → is_claimed_by op (claimed_row row op wish) ≡ true
@@ -175,8 +137,7 @@ item-held l s serial cpu event op old item p stays h =
       free = h.free;
       may = h.may;
       held =
-          (step-row l s serial cpu event op item.block p (claimed_low l s op item.block p mine)).kept mine
-          stays
+          (step-row l s serial cpu event op _ p (claimed_low l s op item.block p mine)).kept mine stays
           ∙ h.held;
     }
 
@@ -185,8 +146,7 @@ step-held : (l : LayoutParts) (s : Memory) (serial cpu : ℕ) (event : Event) (o
     → IsWellPlaced l s → ends op event ≡ false → AreBegun op old s plan
     → AreBegun op old (step l s serial cpu event).memory plan
 step-held l s serial cpu event op old plan p stays h =
-    each_map (IsBegun op old s) (IsBegun op old (step l s serial cpu event).memory)
-    (λ item k. item-held l s serial cpu event op old item p stays k) plan h
+    each_map _ _ (λ item k. item-held l s serial cpu event op old item p stays k) plan h
 
 -- and so do steps one after another
 pub run-held : (l : LayoutParts) (s : Memory) (op : ℕ) (old : Memory) (plan : List Item) (steps : List Record)
@@ -238,18 +198,9 @@ pub record IsBeginOf (l : LayoutParts) (s t : Memory) (serial : ℕ) (plan : Lis
 pub begin-good : (l : LayoutParts) (s : Memory) (serial cpu : ℕ) (plan : List Item)
     → is_refused (step l s serial cpu (Begin plan)).reply ≡ false
     → IsBeginOf l s (step l s serial cpu (Begin plan)).memory serial plan
-unfolding step refusal_of
-begin-good l s serial cpu plan good = by_refusal (refusal_of l s cpu (Begin plan)) refl good
-  where
-    by_refusal : (o : Option Refusal) → refusal_of l s cpu (Begin plan) ≡ o
-        → is_refused (answer l s serial cpu (Begin plan) o).reply ≡ false
-        → IsBeginOf l s (answer l s serial cpu (Begin plan) o).memory serial plan
-    by_refusal (Some refusal) e f = absurd cc
-    by_refusal None e f =
-        record {
-          memory = refl;
-          fine = none_rest (then_some (nat_le l.cpus cpu) NoCpu) (plan_refusals l s plan) e;
-        }
+begin-good l s serial cpu plan good =
+    let done = step_performed l s serial cpu _ good in
+    record { memory = done.memory; fine = done.free }
 
 pub record IsEndOf (s t after : Memory) (op : ℕ) : Type 0 where
   pub memory : t ≡ after
@@ -258,54 +209,33 @@ pub record IsEndOf (s t after : Memory) (op : ℕ) : Type 0 where
 pub commit-good : (l : LayoutParts) (s : Memory) (serial cpu op : ℕ)
     → is_refused (step l s serial cpu (Commit op)).reply ≡ false
     → IsEndOf s (step l s serial cpu (Commit op)).memory (commit_blocks l s op) op
-unfolding step refusal_of
-commit-good l s serial cpu op good = by_refusal (refusal_of l s cpu (Commit op)) refl good
-  where
-    by_refusal : (o : Option Refusal) → refusal_of l s cpu (Commit op) ≡ o
-        → is_refused (answer l s serial cpu (Commit op) o).reply ≡ false
-        → IsEndOf s (answer l s serial cpu (Commit op) o).memory (commit_blocks l s op) op
-    by_refusal (Some refusal) e f = absurd cc
-    by_refusal None e f = record {
-      memory = refl;
-      live =
-          not-false _ (then_none _ _ (all_none (event_refusals l s cpu (Commit op))
-          (none_rest (then_some (nat_le l.cpus cpu) NoCpu) (event_refusals l s cpu (Commit op)) e)).0);
+commit-good l s serial cpu op good =
+    let done = step_performed l s serial cpu _ good in
+    record {
+      memory = done.memory;
+      live = not-false _ (then_none _ _ (all_none (event_refusals l s cpu (Commit op)) done.free).0);
     }
 
 pub cancel-good : (l : LayoutParts) (s : Memory) (serial cpu op : ℕ)
     → is_refused (step l s serial cpu (Cancel op)).reply ≡ false
     → IsEndOf s (step l s serial cpu (Cancel op)).memory (release_blocks l s op) op
-unfolding step refusal_of
-cancel-good l s serial cpu op good = by_refusal (refusal_of l s cpu (Cancel op)) refl good
-  where
-    by_refusal : (o : Option Refusal) → refusal_of l s cpu (Cancel op) ≡ o
-        → is_refused (answer l s serial cpu (Cancel op) o).reply ≡ false
-        → IsEndOf s (answer l s serial cpu (Cancel op) o).memory (release_blocks l s op) op
-    by_refusal (Some refusal) e f = absurd cc
-    by_refusal None e f = record {
-      memory = refl;
-      live =
-          not-false _ (then_none _ _ (all_none (event_refusals l s cpu (Cancel op))
-          (none_rest (then_some (nat_le l.cpus cpu) NoCpu) (event_refusals l s cpu (Cancel op)) e)).0);
+cancel-good l s serial cpu op good =
+    let done = step_performed l s serial cpu _ good in
+    record {
+      memory = done.memory;
+      live = not-false _ (then_none _ _ (all_none (event_refusals l s cpu (Cancel op)) done.free).0);
     }
 
 -- an operation that is live isn't over
 pub live_holds : (op : ℕ) (old s : Memory) (plan : List Item) → is_live s.blocks op ≡ true
     → HoldsOrIsOver op old s plan → AreBegun op old s plan
 live_holds op old s plan live (inl begun) = begun
-live_holds op old s plan live (inr over) =
-    absurd (both_ways (is_live s.blocks op) (dead s.blocks.rows over) live)
+live_holds op old s plan live (inr over) = absurd (both_ways (is_live s.blocks op) (dead _ over) live)
   where
-    neither : (a b : Bool) → a ≡ false → b ≡ false → (a || b) ≡ false
-    neither true b e f = e
-    neither false b e f = f
-
     dead : (rows : List Row) → ((block : ℕ) → is_claimed_by op (get_or rows block offline_row) ≡ false)
         → list_any (is_claimed_by op) rows ≡ false
     dead [] none = refl
-    dead (row ∷ rows) none =
-        neither (is_claimed_by op row) (list_any (is_claimed_by op) rows) (none zero)
-        (dead rows (λ block. none (suc block)))
+    dead (row ∷ rows) none = or_from _ _ (none zero) (dead rows (λ block. none (suc block)))
 
 -- ---- the rows that an operation's end leaves
 
@@ -321,13 +251,12 @@ pub commit-grants : (l : LayoutParts) (s : Memory) (op : ℕ) (old : Memory) (pl
     → IsWellPlaced l s → AreBegun op old s plan
     → AllByRecursion (λ item. row_of (commit_blocks l s op).blocks item.block ≡ wished_row item.wish) plan
 commit-grants l s op old plan p begun =
-    each_map (IsBegun op old s)
-    (λ item. row_of (commit_blocks l s op).blocks item.block ≡ wished_row item.wish) one plan begun
+    each_map _ (λ item. row_of (commit_blocks l s op).blocks item.block ≡ wished_row item.wish) one plan begun
   where
     one : (item : Item) → IsBegun op old s item
         → row_of (commit_blocks l s op).blocks item.block ≡ wished_row item.wish
     one item h =
-        rw (commit-row l s op item.block (claimed_low l s op item.block p (begun_claimed op old s item h))
+        rw (commit-row l s op _ (claimed_low l s op item.block p (begun_claimed op old s item h))
         p.in_order.shape.rows) (rw h.held (granted op (row_of old.blocks item.block) item.wish))
 
 online_only : (state : State) → is_online_state state ≡ true → OnlineState ≡ state
@@ -340,11 +269,11 @@ offline_still _ e = cc
 
 back_offline : (row : Row) (c : Option Claim) → is_offline row ≡ true → row.claim ≡ None
     → released_row (row_with row.state row.zone c) ≡ row
-back_offline row c off none = rw (offline_still row.state off, ← none)
+back_offline row c off none = rw (offline_still _ off, ← none)
 
 given_back : (op : ℕ) (old : Row) (wish : Wish) → MayClaim old wish → old.claim ≡ None
     → released_row (claimed_row old op wish) ≡ old
-given_back op old OffWish may none = rw (online_only old.state may, ← none)
+given_back op old OffWish may none = rw (online_only _ may, ← none)
 given_back op old NormalWish may none =
     back_offline old (Some (record { op = op; wish = NormalWish })) may none
 given_back op old MovableWish may none =
@@ -356,12 +285,12 @@ pub cancel-gives_back : (l : LayoutParts) (s : Memory) (op : ℕ) (old : Memory)
     → AllByRecursion (λ item. row_of (release_blocks l s op).blocks item.block ≡ row_of old.blocks item.block)
     plan
 cancel-gives_back l s op old plan p begun =
-    each_map (IsBegun op old s)
+    each_map _
     (λ item. row_of (release_blocks l s op).blocks item.block ≡ row_of old.blocks item.block) one plan begun
   where
     one : (item : Item) → IsBegun op old s item
         → row_of (release_blocks l s op).blocks item.block ≡ row_of old.blocks item.block
     one item h =
-        rw (release-row l s op item.block (claimed_low l s op item.block p (begun_claimed op old s item h))
+        rw (release-row l s op _ (claimed_low l s op item.block p (begun_claimed op old s item h))
         p.in_order.shape.rows) (rw (begun_claimed op old s item h, h.held) (given_back op (row_of old.blocks
-        item.block) item.wish h.may (not_there (row_of old.blocks item.block).claim h.free)))
+        item.block) item.wish h.may (not_there _ h.free)))

@@ -1,8 +1,7 @@
 -- What holds of the value that an option has, if it has one.
-use Rattle.std.proofs.Common.{◌≡◌, Bool, true, false, cond, List, [], ◌∷◌, Option, Some, None, refl, subst, IfSome}
+use Rattle.std.proofs.Common.{◌≡◌, Bool, true, false, cond, List, [], ◌∷◌, Option, Some, None, refl, IfSome, ◌⊎◌, inl, inr}
 use Rattle.std.specs.Prelude.{find}
-use Rattle.std.specs.Option.{option_map}
-use Rattle.std.proofs.lemmas.Option.{same_Some}
+use Rattle.std.specs.Option.{option_map, option_map_or}
 
 -- a weaker statement of the value
 pub some_weaker : {X : Type 0} (P Q : X → Type 0) → ((x : X) → P x → Q x) → (o : Option X) → IfSome o P
@@ -10,27 +9,40 @@ pub some_weaker : {X : Type 0} (P Q : X → Type 0) → ((x : X) → P x → Q x
 some_weaker P Q h None some = tt
 some_weaker P Q h (Some x) some = h x some
 
+-- where the first item passes a test it is what is found, and otherwise the rest is asked
+pub cond_none : {X : Type 0} (b : Bool) (x : X) (o : Option X) → cond b (Some x) o ≡ None
+    → (b ≡ false) × (o ≡ None)
+cond_none true x o e = cc
+cond_none false x o e = (refl, e)
+
+pub cond_some : {X : Type 0} (b : Bool) (x y : X) (o : Option X) → cond b (Some x) o ≡ Some y
+    → ((b ≡ true) × (x ≡ y)) ⊎ (o ≡ Some y)
+cond_some true x y o e = inl (refl, cc)
+cond_some false x y o e = inr e
+
 -- what is found passes its test, and passes no test that finds nothing
 pub found_passes : {X : Type 0} (p : X → Bool) (xs : List X) (x : X) → find p xs ≡ Some x → p x ≡ true
 found_passes p [] x e = cc
-found_passes p (y ∷ ys) x e = step (p y) refl e (found_passes p ys x)
-  where
-    step : (b : Bool) → p y ≡ b → cond b (Some y) (find p ys) ≡ Some x → (find p ys ≡ Some x → p x ≡ true)
-        → p x ≡ true
-    step true is f later = subst (λ z. p z ≡ true) (same_Some y x f) is
-    step false is f later = later f
+found_passes p (y ∷ ys) x e = elim (cond_some (p y) y x _ e) [
+  | inl here ↦ rw (← here.1) here.0
+  | inr later ↦ found_passes p ys x later
+]
 
 pub found_fails : {X : Type 0} (p q : X → Bool) (xs : List X) (x : X) → find p xs ≡ None → find q xs ≡ Some x
     → p x ≡ false
 found_fails p q [] x none e = cc
-found_fails p q (y ∷ ys) x none e = step (p y) refl (q y) none e (found_fails p q ys x)
-  where
-    step : (a : Bool) → p y ≡ a → (b : Bool) → cond a (Some y) (find p ys) ≡ None
-        → cond b (Some y) (find q ys) ≡ Some x → (find p ys ≡ None → find q ys ≡ Some x → p x ≡ false)
-        → p x ≡ false
-    step true is b none f later = cc
-    step false is true none f later = subst (λ z. p z ≡ false) (same_Some y x f) is
-    step false is false none f later = later none f
+found_fails p q (y ∷ ys) x none e =
+    let fails = cond_none (p y) y _ none in
+    elim (cond_some (q y) y x _ e) [
+      | inl here ↦ rw (← here.1) fails.0
+      | inr later ↦ found_fails p q ys x fails.1 later
+    ]
+
+-- what is made of an option, by whether it has a value
+pub option_cases : {X Y : Type 0} (P : Y → Type 0) (f : X → Y) (o : Option X) (y : Y)
+    → ((x : X) → o ≡ Some x → P (f x)) → (o ≡ None → P y) → P (option_map_or f o y)
+option_cases P f None y some none = none refl
+option_cases P f (Some x) y some none = some x refl
 
 -- a value is there where what is made of it is
 pub map_none : {X Y : Type 0} (f : X → Y) (o : Option X) → option_map f o ≡ None → o ≡ None

@@ -1,13 +1,14 @@
 -- The contents of the pages are those that the net alone gives.
-use Rattle.std.proofs.Common.{◌≡◌, ℕ, zero, suc, List, [], ◌∷◌, Option, Some, None, Bool, true, false, refl, ◌∙◌, ap, cond}
-use Rattle.std.specs.Prelude.{fold, ◌/◌, nat_le}
+use Rattle.std.proofs.lemmas.Bool.{cond_both}
+use Rattle.std.proofs.Common.{◌≡◌, ℕ, zero, suc, List, [], ◌∷◌, Option, Some, None, false, refl, ◌∙◌, ap}
+use Rattle.std.specs.Prelude.{fold, nat_le}
 use Rattle.std.specs.Bool.{then_some}
 use Rattle.std.specs.Option.{option_map_or}
 use Rattle.hp_units.specs.declared.rows.Zone.{Zone}
 use Rattle.hp_units.specs.declared.rows.Wish.{Wish}
-use Rattle.hp_units.specs.declared.rows.Wish.TheVariants.{Off as OffWish, Normal as NormalWish, Movable as MovableWish}
+use Rattle.hp_units.specs.declared.rows.Wish.TheVariants.{Off as OffWish}
 use Rattle.hp_units.specs.declared.rows.Auto.{Auto}
-use Rattle.hp_units.specs.declared.rows.Auto.TheVariants.{Offline as OfflineAuto, Online as OnlineAuto, OnlineKernel as KernelAuto, OnlineMovable as MovableAuto}
+use Rattle.hp_units.specs.declared.rows.Auto.TheVariants.{Offline as OfflineAuto}
 use Rattle.hp_units.specs.declared.rows.Claim.{Claim}
 use Rattle.hp_units.specs.declared.plans.Item.{Item}
 use Rattle.hp_units.specs.declared.events.Event.{Event}
@@ -17,12 +18,11 @@ use Rattle.hp_units.specs.declared.replies.Refusal.TheVariants.{NoCpu, NoFrame, 
 use Rattle.hp_units.specs.declared.replies.Record.{Record}
 use Rattle.hp_units.specs.LayoutParts.{LayoutParts}
 use Rattle.hp_units.specs.Choices.{first_some, unless_some}
-use Rattle.hp_units.specs.Arithmetic.{all_blocks, block_bytes}
-use Rattle.hp_units.specs.Memory.{Memory, Pages, with_entry, row_of, kernel_order}
+use Rattle.hp_units.specs.Arithmetic.{all_blocks}
+use Rattle.hp_units.specs.Memory.{Memory, Pages, with_entry, row_of}
 use Rattle.hp_units.specs.ProcessorLists.{page_frame}
 use Rattle.hp_units.specs.Pages.{page_at, frame_at, move_page}
 use Rattle.hp_units.specs.Rows.{blocks_of, is_going, wish_of, claim_block, begin_block, begin_plan, grant, commit_block, commit_blocks, release_block, release_blocks, online_block}
-use Rattle.hp_units.specs.KernelBlocks.{kernel_block}
 use Rattle.hp_units.specs.Migrations.{migration_source, migration_target}
 use Rattle.hp_units.specs.Refusals.{event_refusals, refusal_of}
 use Rattle.hp_units.specs.Step.{Answered, done, kernel_takes, kernel_gives, give_back, map_step, unmap_step, migrate_step, auto_online, perform, answer, step}
@@ -37,7 +37,7 @@ Contents = List (List (Option (List ℕ)))
 fold-pages : {X : Type 0} (f : Memory → X → Memory) → ((s : Memory) (x : X) → (f s x).pages ≡ s.pages)
     → (s : Memory) (xs : List X) → (fold f s xs).pages ≡ s.pages
 fold-pages f h s [] = refl
-fold-pages f h s (x ∷ xs) = fold-pages f h (f s x) xs ∙ h s x
+fold-pages f h s (x ∷ xs) = fold-pages f h _ xs ∙ h s x
 
 online_block-pages : (l : LayoutParts) (zone : Zone) (s : Memory) (block : ℕ)
     → (online_block l zone s block).pages ≡ s.pages
@@ -47,8 +47,7 @@ online_block-pages l zone s block = refl
 claim_block-pages : (l : LayoutParts) (op : ℕ) (s : Memory) (block : ℕ) (wish : Wish)
     → (claim_block l op s block wish).pages ≡ s.pages
 claim_block-pages l op s block OffWish = refl
-claim_block-pages l op s block NormalWish = refl
-claim_block-pages l op s block MovableWish = refl
+claim_block-pages l op s block _ = refl
 
 option-pages : {X : Type 0} (f : X → Memory) (s : Memory) (o : Option X) → ((x : X) → (f x).pages ≡ s.pages)
     → (option_map_or f o s).pages ≡ s.pages
@@ -66,8 +65,7 @@ grant-pages : (l : LayoutParts) (s : Memory) (block : ℕ) (wish : Wish)
     → (grant l s block wish).pages ≡ s.pages
 unfolding online_block
 grant-pages l s block OffWish = refl
-grant-pages l s block NormalWish = refl
-grant-pages l s block MovableWish = refl
+grant-pages l s block _ = refl
 
 commit_blocks-pages : (l : LayoutParts) (s : Memory) (op : ℕ) → (commit_blocks l s op).pages ≡ s.pages
 unfolding commit_blocks
@@ -75,24 +73,17 @@ commit_blocks-pages l s op =
     fold-pages (commit_block l) (λ t block. option-pages (λ (claim : Claim). grant l t block claim.wish) t
     (row_of t.blocks block).claim (λ claim. grant-pages l t block claim.wish)) s (blocks_of l s.blocks op)
 
-cond-pages : (b : Bool) (s t u : Memory) → s.pages ≡ u.pages → t.pages ≡ u.pages
-    → (cond b s t).pages ≡ u.pages
-cond-pages true s t u h k = h
-cond-pages false s t u h k = k
-
 release_blocks-pages : (l : LayoutParts) (s : Memory) (op : ℕ) → (release_blocks l s op).pages ≡ s.pages
 unfolding release_blocks
 release_blocks-pages l s op =
-    fold-pages (release_block l) (λ t block. cond-pages (is_going (row_of t.blocks block)) _ _ t refl refl) s
-    (blocks_of l s.blocks op)
+    fold-pages (release_block l) (λ t block. cond_both (is_going (row_of t.blocks block)) _ _
+    (λ (u : Memory). u.pages ≡ t.pages) (λ going. refl) (λ still. refl)) s (blocks_of l s.blocks op)
 
 auto_online-pages : (l : LayoutParts) (auto : Auto) (s : Memory) (block : ℕ)
     → (auto_online l auto s block).pages ≡ s.pages
 unfolding online_block
 auto_online-pages l OfflineAuto s block = refl
-auto_online-pages l OnlineAuto s block = refl
-auto_online-pages l KernelAuto s block = refl
-auto_online-pages l MovableAuto s block = refl
+auto_online-pages l _ s block = refl
 
 give_back-pages : (l : LayoutParts) (s : Memory) (cpu frame order : ℕ)
     → (give_back l s cpu frame order).pages ≡ s.pages
@@ -110,14 +101,13 @@ answered-contents f s (Some x) h = h x
 kernel_takes-contents : (l : LayoutParts) (s : Memory) (cpu order : ℕ)
     → (kernel_takes l s cpu order).memory.pages.contents ≡ s.pages.contents
 unfolding kernel_takes
-kernel_takes-contents l s cpu order = answered-contents _ s (kernel_block l s.free cpu order) (λ handed. refl)
+kernel_takes-contents l s cpu order = answered-contents _ s _ (λ handed. refl)
 
 kernel_gives-contents : (l : LayoutParts) (s : Memory) (cpu frame : ℕ)
     → (kernel_gives l s cpu frame).memory.pages.contents ≡ s.pages.contents
 unfolding kernel_gives
 kernel_gives-contents l s cpu frame =
-    answered-contents _ s (kernel_order s frame)
-    (λ order. ap (λ (p : Pages). p.contents) (give_back-pages l _ cpu frame order))
+    answered-contents _ s _ (λ order. ap (λ (p : Pages). p.contents) (give_back-pages l _ cpu frame order))
 
 move_page-contents : (ps : Pages) (from to : ℕ) → (move_page ps from to).contents ≡ ps.contents
 move_page-contents ps from to = at (page_at ps from)
@@ -146,18 +136,14 @@ map_step-contents : (l : LayoutParts) (s : Memory) (cpu owner page : ℕ)
     → unless_some (page_frame l s.free cpu) NoFrame ≡ None
     → (map_step l s cpu owner page).memory.pages.contents ≡ contents_after l s.pages.contents (Map owner page)
 unfolding map_step
-map_step-contents l s cpu owner page e =
-    answered-present _ s (page_frame l s.free cpu) NoFrame
-    (contents_after l s.pages.contents (Map owner page)) (λ handed. refl) e
+map_step-contents l s cpu owner page e = answered-present _ s _ _ _ (λ handed. refl) e
 
 unmap_step-contents : (l : LayoutParts) (s : Memory) (cpu owner page : ℕ)
     → unless_some (frame_at s.pages owner page) NotMapped ≡ None
     → (unmap_step l s cpu owner page).memory.pages.contents
     ≡ contents_after l s.pages.contents (Unmap owner page)
 unfolding unmap_step
-unmap_step-contents l s cpu owner page e =
-    answered-present _ s (frame_at s.pages owner page) NotMapped
-    (contents_after l s.pages.contents (Unmap owner page)) (λ frame. refl) e
+unmap_step-contents l s cpu owner page e = answered-present _ s _ _ _ (λ frame. refl) e
 
 -- the first of several is none: so each is
 abbrev pub AllNone : {A : Type 0} → List (Option A) → Type 0
@@ -186,10 +172,9 @@ perform-contents l s serial cpu (Unmap owner page) e =
 perform-contents l s serial cpu (Online block zone) e = rw (online_block-pages l zone s block)
 perform-contents l s serial cpu (Begin plan) e = rw (begin_plan-pages l s serial plan)
 perform-contents l s serial cpu (Migrate op) e = migrate_step-contents l s op
-perform-contents l s serial cpu (Commit op) e = ap (λ (p : Pages). p.contents) (commit_blocks-pages l s op)
-perform-contents l s serial cpu (Cancel op) e = ap (λ (p : Pages). p.contents) (release_blocks-pages l s op)
-perform-contents l s serial cpu (Probe address) e =
-    ap (λ (p : Pages). p.contents) (auto_online-pages l s.blocks.auto _ (address / block_bytes l))
+perform-contents l s serial cpu (Commit op) e = rw (commit_blocks-pages l s op)
+perform-contents l s serial cpu (Cancel op) e = rw (release_blocks-pages l s op)
+perform-contents l s serial cpu (Probe address) e = rw (auto_online-pages l _ _ _)
 perform-contents l s serial cpu _ e = refl
 
 answer-contents : (l : LayoutParts) (s : Memory) (serial cpu : ℕ) (event : Event) (o : Option Refusal)
@@ -207,7 +192,7 @@ pub step-contents : (l : LayoutParts) (s : Memory) (serial cpu : ℕ) (event : E
     → is_refused (step l s serial cpu event).reply ≡ false
     → (step l s serial cpu event).memory.pages.contents ≡ contents_after l s.pages.contents event
 unfolding step
-step-contents l s serial cpu event h = answer-contents l s serial cpu event (refusal_of l s cpu event) refl h
+step-contents l s serial cpu event h = answer-contents l s serial cpu event _ refl h
 
 -- no step of a run is refused
 abbrev pub AllSucceed : LayoutParts → Memory → List Record → Type 0

@@ -2,29 +2,28 @@
 use Rattle.std.proofs.Common.{◌≡◌, ℕ, zero, suc, ◌%◌, ◌^◌, ◌<◌, ◌≤◌, List, length, set, Option, Some, None, refl, sym, ◌∙◌, ap, subst, arith, IfSome, length-set}
 use Rattle.std.proofs.lemmas.List.{length-replicate}
 use Rattle.std.specs.Option.{option_map, option_map_or, option_or}
-use Rattle.hp_units.specs.declared.replies.Reply.TheVariants.{Frame as GivesFrame}
 use Rattle.hp_units.specs.declared.rows.Mobility.TheVariants.{Unmovable, Movable}
 use Rattle.hp_units.specs.declared.rows.Pool.TheVariants.{Nu as NuPool, Nm as NmPool, Mm as MmPool}
 use Rattle.hp_units.specs.declared.rows.Zone.{Zone}
 use Rattle.hp_units.specs.declared.rows.Zone.TheVariants.{Normal as NormalZone, Movable as MovableZone}
 use Rattle.hp_units.specs.LayoutParts.{LayoutParts, IsLayout}
 use Rattle.hp_units.specs.Arithmetic.{frame_count, pageblock_of}
-use Rattle.hp_units.specs.Memory.{Memory, entry_of, with_entry, kernel_order, with_kernel_order}
+use Rattle.hp_units.specs.Memory.{Memory, entry_of, kernel_order, with_kernel_order}
 use Rattle.hp_units.specs.FreeAreas.{steal_block}
-use Rattle.hp_units.specs.Pages.{frame_at, fresh_words, map_page, unmap_page, words_at, write_word}
+use Rattle.hp_units.specs.Pages.{frame_at, fresh_words, map_page, words_at, write_word}
 use Rattle.hp_units.specs.ProcessorLists.{Handed, handed_from, kernel_frame, page_frame, put_one, take_one}
 use Rattle.hp_units.specs.Rows.{zone_of}
-use Rattle.hp_units.specs.Step.{done, give_back, kernel_gives, kernel_takes, map_step, unmap_step, with_free, with_pages}
+use Rattle.hp_units.specs.Step.{done, give_back, kernel_gives, kernel_takes, map_step, unmap_step, with_free, with_pages, Answered}
 use Rattle.hp_units.specs.Placement.{IsInOrder, IsKernelAt, IsPage, IsWellPlaced, kernel_places, mapped_places, row_at}
-use Rattle.hp_laws.proofs.Options.{some_weaker}
-use Rattle.hp_lemmas.proofs.Lists.{covered-self}
+use Rattle.hp_laws.proofs.Options.{some_weaker, option_cases}
+use Rattle.hp_units.proofs.ListEdits.{covered-self}
 use Rattle.hp_laws.proofs.States.{in_layout, kernel-in_order, kernel_free, kernel_give-placed, zone_known}
-use Rattle.hp_lemmas.proofs.KernelBlocks.{kernel-places}
+use Rattle.hp_units.proofs.KernelBlockFrames.{kernel-places}
 use Rattle.hp_laws.proofs.Steals.{or_some, steal_block-placed, kernel_takes-placed}
 use Rattle.hp_laws.proofs.Hands.{HandsPlaced}
 use Rattle.hp_laws.proofs.Puts.{handed_from-placed, put_one-placed, take_one-placed}
 use Rattle.hp_laws.proofs.Tables.{HasZone, both-in_order, live_row, pages-in_order}
-use Rattle.hp_lemmas.proofs.Tables.{contents_of, entry-cases, entry_within, held-some, mapped-places, mapped_some, table_of, with_entry-table}
+use Rattle.hp_units.proofs.Tables.{contents_of, entry-cases, entry_within, held-some, mapped-places, mapped_some, table_of, with_entry-table}
 
 -- ---- a single frame for the kernel
 
@@ -40,17 +39,15 @@ kernel_handed-placed : (l : LayoutParts) (s : Memory) (handed : Handed) → IsLa
     → HandsPlaced l s NormalZone handed
     → IsWellPlaced l (with_kernel_order (with_free s handed.free) handed.frame (Some 0))
 kernel_handed-placed l s handed layout p t =
-    let within : handed.frame < frame_count l =
-    in_layout l s handed.frame NormalZone layout p.in_order.shape.rows t.zone_is in
+    let within : handed.frame < frame_count l = in_layout l s _ _ layout p.in_order.shape.rows t.zone_is in
     let short : handed.frame < length s.kernel = omega (arith, p.in_order.shape.kernel) in
     let gone : kernel_places s handed.frame ≡ 0 =
     omega (arith, p.once handed.frame, t.places handed.frame, covered-self 0 handed.frame) in
-    let none : kernel_order s handed.frame ≡ None =
-    kernel_free l s handed.frame (kernel_order s handed.frame) refl short gone in
+    let none : kernel_order s handed.frame ≡ None = kernel_free l s _ _ refl short gone in
     let even : handed.frame % 2 ^ 0 ≡ 0 = omega arith in
     record {
       in_order =
-          kernel-in_order l (with_free s handed.free) handed.frame (Some 0) t.in_order within
+          kernel-in_order l _ _ _ t.in_order within
           (record { in_order = omega arith; aligned = even; normal = t.zone_is });
       once =
           λ frame. omega (
@@ -66,17 +63,9 @@ pub kernel_alloc-placed : (l : LayoutParts) (s : Memory) (cpu order : ℕ) → c
 unfolding kernel_takes
 kernel_alloc-placed l s cpu (suc below) low layout p high = kernel_takes-placed l s cpu below layout p high
 kernel_alloc-placed l s cpu zero low layout p high =
-    taken (kernel_frame l s.free cpu) (kernel_frame-placed l s cpu low layout p)
-  where
-    taken : (o : Option Handed) → IfSome o (HandsPlaced l s NormalZone)
-        → IsWellPlaced l
-        (option_map_or (λ handed. record {
-          memory = with_kernel_order (with_free s handed.free) handed.frame
-              (Some 0);
-          reply = GivesFrame handed.frame;
-        }) o (done s)).memory
-    taken None h = p
-    taken (Some handed) h = kernel_handed-placed l s handed layout p h
+    option_cases (λ (a : Answered). IsWellPlaced l a.memory) _ (kernel_frame l s.free cpu) _
+    (λ handed is. kernel_handed-placed l s handed layout p
+    (rw is at (kernel_frame-placed l s cpu low layout p))) (λ none. p)
 
 -- ---- the kernel gives a block back
 
@@ -87,26 +76,24 @@ kernel_single-placed : (l : LayoutParts) (s : Memory) (cpu frame : ℕ) → cpu 
 kernel_single-placed l s cpu frame low layout p e =
     let block : IsKernelAt l s.blocks.rows frame 0 =
     subst (λ (o : Option ℕ). IfSome o (IsKernelAt l s.blocks.rows frame)) e (p.in_order.kernel frame) in
-    let within : frame < frame_count l =
-    in_layout l s frame NormalZone layout p.in_order.shape.rows block.normal in
+    let within : frame < frame_count l = in_layout l s frame _ layout p.in_order.shape.rows block.normal in
     let short : frame < length s.kernel = omega (arith, p.in_order.shape.kernel) in
     let zone : (row_at l s.blocks.rows (pageblock_of l frame)).zone ≡ Some (zone_of l s frame) =
-    block.normal ∙ ap (λ (z : Zone). Some z) (sym (zone_known l s frame NormalZone block.normal)) in
-    put_one-placed l (with_kernel_order s frame None) cpu (zone_of l s frame) frame low
-    (kernel-in_order l s frame None p.in_order within tt) zone
+    block.normal ∙ ap (λ (z : Zone). Some z) (sym (zone_known l s frame _ block.normal)) in
+    put_one-placed l _ cpu _ frame low (kernel-in_order l s frame None p.in_order within tt) zone
     (λ other. omega (arith, p.once other, rw e at (kernel-places s frame other None short)))
 
 pub kernel_free-placed : (l : LayoutParts) (s : Memory) (cpu frame : ℕ) → cpu < l.cpus → IsLayout l
     → IsWellPlaced l s → IsWellPlaced l (kernel_gives l s cpu frame).memory
 unfolding kernel_gives
-kernel_free-placed l s cpu frame low layout p = by_order (kernel_order s frame) refl
+kernel_free-placed l s cpu frame low layout p = by_order _ refl
   where
     by_order : (o : Option ℕ) → kernel_order s frame ≡ o
         → IsWellPlaced l (option_map_or
         (λ order. done (give_back l (with_kernel_order s frame None) cpu frame order)) o (done s)).memory
     by_order None e = p
     by_order (Some zero) e = kernel_single-placed l s cpu frame low layout p e
-    by_order (Some (suc below)) e = kernel_give-placed l s frame (suc below) layout p e
+    by_order (Some (suc below)) e = kernel_give-placed l s frame _ layout p e
 
 -- ---- Map
 
@@ -137,8 +124,7 @@ mapped-placed : (l : LayoutParts) (s : Memory) (owner page : ℕ) (zone : Zone) 
     (with_pages (with_free s handed.free) (map_page s.pages owner page handed.frame (fresh_words l)))
 mapped-placed l s owner page zone handed low short p e t = record {
   in_order =
-      both-in_order l (with_free s handed.free) owner page (Some handed.frame) (Some (fresh_words l)) low
-      short
+      both-in_order l _ owner page _ _ low short
       t.in_order (length-replicate l.words 0);
   once = λ frame.
       let places =
@@ -152,14 +138,9 @@ pub map-placed : (l : LayoutParts) (s : Memory) (cpu owner page : ℕ) → cpu <
     → IsWellPlaced l (map_step l s cpu owner page).memory
 unfolding map_step
 map-placed l s cpu owner page low layout p some_owner some_page e =
-    taken (page_frame l s.free cpu) (page_frame-placed l s cpu low layout p)
-  where
-    taken : (o : Option Handed) → IfSome o (HandsSome l s)
-        → IsWellPlaced l
-        (option_map_or (λ handed. done (with_pages (with_free s handed.free)
-        (map_page s.pages owner page handed.frame (fresh_words l)))) o (done s)).memory
-    taken None h = p
-    taken (Some handed) h = mapped-placed l s owner page h.0 handed some_owner some_page p e h.1
+    option_cases (λ (a : Answered). IsWellPlaced l a.memory) _ (page_frame l s.free cpu) _ (λ handed is.
+    let h = rw is at (page_frame-placed l s cpu low layout p) in
+    mapped-placed l s owner page h.0 handed some_owner some_page p e h.1) (λ none. p)
 
 -- ---- Unmap
 
@@ -169,32 +150,27 @@ pub mapped_zone : (l : LayoutParts) (s : Memory) (owner page frame : ℕ) → Is
     → (row_at l s.blocks.rows (pageblock_of l frame)).zone ≡ Some (zone_of l s frame)
 mapped_zone l s owner page frame p e =
     let some : 1 ≤ mapped_places s.pages frame =
-    mapped_some l.owners l.pages s.pages.table owner page frame (table_of l s p.in_order) e in
+    mapped_some _ _ _ owner page frame (table_of l s p.in_order) e in
     let has : HasZone l s.blocks.rows frame = live_row l s frame p.in_order (omega (arith, p.once frame)) in
-    has.zone_is ∙ ap (λ (z : Zone). Some z) (sym (zone_known l s frame has.zone has.zone_is))
+    has.zone_is ∙ ap (λ (z : Zone). Some z) (sym (zone_known l s frame _ has.zone_is))
 
 pub unmap-placed : (l : LayoutParts) (s : Memory) (cpu owner page : ℕ) → cpu < l.cpus → IsWellPlaced l s
     → IsWellPlaced l (unmap_step l s cpu owner page).memory
 unfolding unmap_step
-unmap-placed l s cpu owner page low p = by_frame (frame_at s.pages owner page) refl
-  where
-    by_frame : (o : Option ℕ) → frame_at s.pages owner page ≡ o
-        → IsWellPlaced l (option_map_or (λ frame.
-        done (give_back l (with_pages s (unmap_page s.pages owner page)) cpu frame 0)) o (done s)).memory
-    by_frame None e = p
-    by_frame (Some frame) e =
-        let table = table_of l s p.in_order in
-        let within = entry_within l.owners l.pages s.pages.table owner page frame table e in
-        put_one-placed l (with_pages s (unmap_page s.pages owner page)) cpu (zone_of l s frame) frame low
-        (both-in_order l s owner page None None within.owner_in within.page_in p.in_order tt)
-        (mapped_zone l s owner page frame p e)
-        (λ other. omega (
-          arith,
-          p.once other,
-          rw e at (mapped-places l.owners l.pages s.pages.table owner page
-              None other within.owner_in within.page_in table),
-          held-some other frame,
-        ))
+unmap-placed l s cpu owner page low p =
+    option_cases (λ (a : Answered). IsWellPlaced l a.memory) _ _ _ (λ frame e.
+    let table = table_of l s p.in_order in
+    let within = entry_within _ _ _ owner page frame table e in
+    put_one-placed l _ cpu _ frame low
+    (both-in_order l s owner page None None within.owner_in within.page_in p.in_order tt)
+    (mapped_zone l s owner page frame p e)
+    (λ other. omega (
+      arith,
+      p.once other,
+      rw e at (mapped-places _ l.pages _ owner page None other within.owner_in
+          within.page_in table),
+      held-some other frame,
+    ))) (λ none. p)
 
 -- ---- Write
 
@@ -213,11 +189,9 @@ write-placed l s owner page index value p low short =
     let contents = contents_of l s h in
     record {
       in_order =
-          pages-in_order l s (record s.pages { contents = with_entry s.pages.contents owner page w }) h
-          (table_of l s h) (with_entry-table l.owners l.pages s.pages.contents owner page w low contents)
-          (entry-cases (λ (o q : ℕ) (e : Option (List ℕ)). IsPage l (entry_of s.pages.table o q) e) l.owners
-          l.pages s.pages.contents owner page w low short contents
-          (page_written l (frame_at s.pages owner page) (words_at s.pages owner page) index value
+          pages-in_order l s _ h (table_of l s h) (with_entry-table _ _ _ owner page w low contents)
+          (entry-cases (λ (o q : ℕ) (e : Option (List ℕ)). IsPage l (entry_of s.pages.table o q) e) _
+          _ _ owner page w low short contents (page_written l _ _ index value
           (h.words owner page)) (λ o q elsewhere. h.words o q));
       once = p.once;
     }

@@ -1,8 +1,8 @@
 -- The free blocks of a pageblock change their class.
-use Rattle.std.proofs.Common.{◌≡◌, ◌≢◌, ℕ, zero, suc, ◌+◌, ◌*◌, ◌/◌, ◌^◌, ◌<◌, ◌≤◌, List, [], ◌∷◌, ◌++◌, length, Bool, true, false, not, cond, refl, sym, ◌∙◌, ap, subst, arith, ◌⊎◌, inl, inr, ◌==◌, ◌||◌, eqb-true, ne_eqb, eq-eqb}
+use Rattle.std.proofs.Common.{◌≡◌, ◌≢◌, ℕ, zero, suc, ◌+◌, ◌*◌, ◌/◌, ◌^◌, ◌<◌, ◌≤◌, List, [], ◌∷◌, ◌++◌, length, Bool, true, not, refl, sym, ◌∙◌, subst, arith, ◌⊎◌, inl, inr, ◌==◌, eqb-true, ne_eqb, eq-eqb}
 use Rattle.std.specs.Prelude.{filter}
 use Rattle.std.specs.List.{range_with_len}
-use Rattle.std.proofs.lemmas.Bool.{cases_eq, cases_lt, false_from_ne_true, or_cases}
+use Rattle.std.proofs.lemmas.Bool.{cases_eq, cases_lt, false_from_ne_true, or_cases, cases_Bool, or_right, or_left}
 use Rattle.std.proofs.lemmas.Bool.Decides.{nat_tests}
 use Rattle.std.proofs.lemmas.List.Elements.{filter_agree}
 use Rattle.std.proofs.lemmas.List.Folds.{list_any-append}
@@ -16,9 +16,9 @@ use Rattle.hp_units.specs.Memory.{FreeAreas, free_list, with_free_list, class_in
 use Rattle.hp_units.specs.FreeAreas.{is_on}
 use Rattle.hp_units.specs.Isolation.{move_free, move_free_below}
 use Rattle.hp_units.specs.Placement.{free_places, list_places, covered}
-use Rattle.hp_lemmas.proofs.Sizes.{with_free_list-size}
-use Rattle.hp_lemmas.proofs.Places.{HasOrder, with_free_list-places}
-use Rattle.hp_lemmas.proofs.Lists.{free_list-apart, free_list-cases, free_list-same, list_places-le, that_list}
+use Rattle.hp_units.proofs.Sizes.{with_free_list-size}
+use Rattle.hp_units.proofs.Places.{HasOrder, with_free_list-places}
+use Rattle.hp_units.proofs.ListEdits.{free_list-apart, free_list-cases, free_list-same, list_places-le, that_list}
 use Rattle.hp_laws.specs.Commits.{IsInRange}
 use Rattle.hp_laws.proofs.Onlines.{quotient}
 use Rattle.hp_laws.proofs.Moves.{AreApart, apart_by_places, is_among, moved-sum}
@@ -32,28 +32,17 @@ pub record IsBoth (a b : Bool) : Type 0 where
 pub on_filter : (p : ℕ → Bool) (frame : ℕ) (xs : List ℕ) → is_on frame (filter p xs) ≡ true
     → IsBoth (p frame) (is_on frame xs)
 on_filter p frame [] on = cc
-on_filter p frame (x ∷ xs) on = step (p x) refl on (on_filter p frame xs)
-  where
-    later : (same : Bool) → is_on frame xs ≡ true → (same || is_on frame xs) ≡ true
-    later true e = refl
-    later false e = e
-
-    first : (same : Bool) → same ≡ true → (same || is_on frame xs) ≡ true
-    first true e = refl
-    first false e = cc
-
-    step : (b : Bool) → p x ≡ b → is_on frame (cond b (x ∷ filter p xs) (filter p xs)) ≡ true
-        → (is_on frame (filter p xs) ≡ true → IsBoth (p frame) (is_on frame xs))
-        → IsBoth (p frame) (is_on frame (x ∷ xs))
-    step false e on rest = record { left = (rest on).left; right = later (x == frame) (rest on).right }
-    step true e on rest = elim (or_cases (x == frame) (is_on frame (filter p xs)) on) [
-      | inl same ↦
-          record {
-            left = subst (λ (n : ℕ). p n ≡ true) (eqb-true x frame same) e;
-            right = first (x == frame) same;
-          }
-      | inr there ↦ record { left = (rest there).left; right = later (x == frame) (rest there).right }
-    ]
+on_filter p frame (x ∷ xs) on = elim (cases_Bool (p x)) [
+  | inl e ↦ elim (or_cases (x == frame) (is_on frame (filter p xs)) (rw e at on)) [
+    | inl same ↦ record { left = rw (← eqb-true x frame same) e; right = or_left (x == frame) _ same }
+    | inr there ↦
+        let rest = on_filter p frame xs there in
+        record { left = rest.left; right = or_right _ _ rest.right }
+  ]
+  | inr e ↦
+      let rest = on_filter p frame xs (rw e at on) in
+      record { left = rest.left; right = or_right _ _ rest.right }
+]
 
 pub on_range : (frame from count : ℕ) → is_on frame (range_with_len from count) ≡ true
     → IsInRange from count frame
@@ -74,10 +63,10 @@ among_block size block x some = elim (cases_eq (x / size) block) [
   | inl same ↦
       let high : x < x / size * size + size = lt-div-mul-add some in
       let low : x / size * size ≤ x = omega (arith, div-add-mod' x size) in
-      let yes : is_among (x / size * size) size x ≡ true = among_yes (x / size * size) size x low high in
+      let yes : is_among (x / size * size) size x ≡ true = among_yes _ size x low high in
       subst (λ (b : ℕ). is_among (b * size) size x ≡ true) same yes ∙ sym (eq-eqb (x / size) block same)
   | inr ne ↦ false_from_ne_true (is_among (block * size) size x) (λ yes.
-      let in_range = among_parts (block * size) size x yes in
+      let in_range = among_parts _ size x yes in
       ne (quotient x size block in_range.low in_range.high)) ∙ sym (ne_eqb (x / size) block ne)
 ]
   where
@@ -85,13 +74,7 @@ among_block size block x some = elim (cases_eq (x / size) block) [
     among_yes from count x h k = grind (arith, nat_tests)
 
     among_parts : (from count x : ℕ) → is_among from count x ≡ true → IsInRange from count x
-    among_parts from count x e = record { low = low from count x e; high = high from count x e }
-      where
-        low : (from count x : ℕ) → is_among from count x ≡ true → from ≤ x
-        low from count x e = grind (arith, nat_tests)
-
-        high : (from count x : ℕ) → is_among from count x ≡ true → x < from + count
-        high from count x e = grind (arith, nat_tests)
+    among_parts from count x e = record { low = grind (arith, nat_tests); high = grind (arith, nat_tests) }
 
 -- ---- one list written, where the old one is known to be another
 
@@ -156,10 +139,10 @@ move_free-below l a b from to pageblock order has few h =
     let same : kept ≡ filter (λ x. not (is_among (pageblock * size) size x)) frames =
     filter_agree (λ frame. not (pageblock_of l frame == pageblock))
     (λ x. not (is_among (pageblock * size) size x))
-    (λ x. ap not (sym (among_block size pageblock x (pow_pos l.order)))) frames in
+    (λ x. rw (← among_block size _ x (pow_pos l.order))) frames in
     let sums : (frame : ℕ)
     → list_places frame order gone + list_places frame order kept ≡ list_places frame order frames =
-    λ frame. rw same (moved-sum (λ x. covered frame order x) (pageblock * size) size frames apart) in
+    λ frame. rw same (moved-sum _ _ size frames apart) in
     let put : List ℕ = free_list left to order ++ gone in
     let still : (c : Class) (o : ℕ) → 5 * o + class_index c ≢ 5 * order + class_index from → (first : ℕ)
     → is_on first (free_list b c o) ≡ true → WasBlock l a from to pageblock (suc order) c o first =
@@ -179,23 +162,21 @@ move_free-below l a b from to pageblock order has few h =
         arith,
         with_free_list-places left to order frame put has_left,
         with_free_list-places b from order frame kept has_b,
-        sum_by-append (λ x. covered frame order x) (free_list left to order) gone,
+        sum_by-append (covered frame order) (free_list left to order) gone,
         sums frame,
         h.places frame,
       );
       blocks =
           free_list-cases (λ (c : Class) (o : ℕ) (xs : List ℕ). (first : ℕ) → is_on first xs ≡ true
           → WasBlock l a from to pageblock (suc order) c o first) left to order put has_left
-          (λ first on. elim (on_append first (free_list left to order) gone on) [
+          (λ first on. elim (on_append first _ gone on) [
             | inl there ↦ in_left to order first there
-            | inr new ↦
-                (let both =
-                on_filter (λ frame. is_on frame frames) first (frames_of_pageblock l pageblock) new in
-                let in_range = on_range first (pageblock * size) size both.right in
+            | inr new ↦ (let both = on_filter (λ frame. is_on frame frames) first _ new in
+                let in_range = on_range first _ size both.right in
                 inl (record {
                   below = omega arith;
                   class_is = refl;
-                  here = quotient first size pageblock
+                  here = quotient first size _
                       in_range.low in_range.high;
                   was = old_here first (h.blocks from order first both.left);
                 }))
@@ -221,13 +202,8 @@ move_free-below l a b from to pageblock order has few h =
     kept_here first both was =
         inr (record {
           was = old_here first (was both.right);
-          away = λ below same here. not_both
-              (pageblock_of l first == pageblock) (eq-eqb (pageblock_of l first) pageblock here) both.left;
+          away = λ below same here. cc (rw (eq-eqb (pageblock_of l first) pageblock here) at both.left);
         })
-      where
-        not_both : (b : Bool) → b ≡ true → not b ≡ true → ⊥
-        not_both true e f = cc
-        not_both false e f = cc
 
     later : (c : Class) (o first : ℕ) → 5 * o + class_index c ≢ 5 * order + class_index from
         → WasBlock l a from to pageblock order c o first
@@ -239,7 +215,7 @@ move_free-below l a b from to pageblock order has few h =
       away = λ below same. elim (cases_lt o order) [
         | inl low ↦ k.away low same
         | inr high ↦
-            let is : class_index c ≡ class_index from = ap class_index same in
+            let is : class_index c ≡ class_index from = rw same in
             absurd (ne (omega arith))
       ];
     })
@@ -255,5 +231,5 @@ moves_below l a from to pageblock zero has few =
       blocks = λ class order first on. inr (record { was = on; away = λ below. absurd (omega arith) });
     }
 moves_below l a from to pageblock (suc order) has few =
-    move_free-below l a (move_free_below l a from to pageblock order) from to pageblock order (omega arith)
-    few (moves_below l a from to pageblock order (omega arith) few)
+    move_free-below l a _ from to _ order (omega arith)
+    few (moves_below l a from to _ order (omega arith) few)

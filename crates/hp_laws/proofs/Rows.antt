@@ -1,7 +1,7 @@
 -- Rows of blocks that are offline or absent change, and a block goes online.
 use Rattle.std.proofs.Common.{◌≡◌, ◌≢◌, ℕ, ◌+◌, ◌*◌, ◌<◌, ◌≤◌, List, [], ◌∷◌, length, get_or, set, Bool, true, false, cond, Option, Some, None, refl, sym, ◌∙◌, ap, subst, arith, inl, inr, IfSome, length-set, ◌==◌, ◌||◌}
 use Rattle.std.specs.List.{count_by}
-use Rattle.std.proofs.lemmas.Bool.{cases_eq, cases_lt, both_ways}
+use Rattle.std.proofs.lemmas.Bool.{cases_eq, cases_lt, both_ways, or_cases}
 use Rattle.std.proofs.lemmas.List.{get_or-set_other, get_or-set_same, get_or_past}
 use Rattle.std.proofs.lemmas.List.Sums.{sum_by-cons, get_or-le-sum_by}
 use Rattle.hp_units.specs.declared.rows.Pool.{Pool}
@@ -20,38 +20,33 @@ use Rattle.hp_units.specs.Memory.{FreeFrames, Memory, cached_list, kernel_order,
 use Rattle.hp_units.specs.FreeAreas.{is_on}
 use Rattle.hp_units.specs.Rows.{with_block_row, is_going, is_offline_state, is_absent_state, is_going_state}
 use Rattle.hp_units.specs.Placement.{is_unplugged, IsRow, IsRowOf, free_places, cached_places, kernel_places, mapped_places, offline_places, IsInOrder, IsWellPlaced, IsKernelAt, class_at, pool_at, row_at, kind_at}
-use Rattle.hp_lemmas.proofs.Lists.{covered-self}
+use Rattle.hp_units.proofs.ListEdits.{covered-self}
 use Rattle.hp_laws.proofs.Areas.{other-ordered}
-use Rattle.hp_laws.proofs.States.{get_or-cases, areas_of, block_of-pageblock}
-use Rattle.hp_lemmas.proofs.KernelBlocks.{kernel-places}
+use Rattle.hp_laws.proofs.States.{get_or-cases, areas_of, block_of-pageblock, reshaped}
+use Rattle.hp_units.proofs.KernelBlockFrames.{kernel-places}
 
 -- ---- what is in a place isn't in an unplugged block
 
 on_count : (frame : ℕ) (frames : List ℕ) → is_on frame frames ≡ true
     → 1 ≤ count_by (λ other. other == frame) frames
 on_count frame [] on = cc
-on_count frame (x ∷ xs) on =
-    step (x == frame) (is_on frame xs) (count_by (λ other. other == frame) xs) on (on_count frame xs)
-    (sum_by-cons (λ y. cond (y == frame) 1 0) x xs)
-  where
-    step : (same other : Bool) (count : ℕ) {whole : ℕ} → (same || other) ≡ true → (other ≡ true → 1 ≤ count)
-        → whole ≡ cond same 1 0 + count → 1 ≤ whole
-    step true other count on h e = omega arith
-    step false other count on h e = omega (arith, h on)
+on_count frame (x ∷ xs) on = elim (or_cases (x == frame) (is_on frame xs) on) [
+  | inl same ↦ rw (sum_by-cons (λ y. cond (y == frame) 1 0) x xs, same) (omega arith)
+  | inr there ↦ omega (arith, sum_by-cons (λ y. cond (y == frame) 1 0) x xs, on_count frame xs there)
+]
 
 pub on_cached : (fs : FreeFrames) (cpu : ℕ) (pool : Pool) (frame : ℕ)
     → is_on frame (cached_list fs cpu pool) ≡ true → 1 ≤ cached_places fs frame
 on_cached fs cpu pool frame on = elim (cases_lt (3 * cpu + pool_index pool) (length fs.cached)) [
   | inl low ↦
-      let some : 1 ≤ count_by (λ other. other == frame) (cached_list fs cpu pool) =
-      on_count frame (cached_list fs cpu pool) on in
+      let some : 1 ≤ count_by (λ other. other == frame) (cached_list fs cpu pool) = on_count frame _ on in
       omega (
         arith,
         get_or-le-sum_by (λ (frames : List ℕ). count_by (λ other. other == frame) frames)
             fs.cached (3 * cpu + pool_index pool) [] low,
       )
   | inr high ↦
-      let past : cached_list fs cpu pool ≡ [] = get_or_past fs.cached (3 * cpu + pool_index pool) [] high in
+      let past : cached_list fs cpu pool ≡ [] = get_or_past _ _ [] high in
       absurd (both_ways (is_on frame []) refl (subst (λ (xs : List ℕ). is_on frame xs ≡ true) past on))
 ]
 
@@ -60,7 +55,7 @@ pub kernel_some : (s : Memory) (first order : ℕ) → kernel_order s first ≡ 
 kernel_some s first order e = elim (cases_lt first (length s.kernel)) [
   | inl low ↦ omega (arith, rw e at (kernel-places s first first None low), covered-self order first)
   | inr high ↦
-      let past : None ≡ Some order = sym (get_or_past s.kernel first None high) ∙ e in
+      let past : None ≡ Some order = sym (get_or_past _ first None high) ∙ e in
       cc
 ]
 
@@ -71,10 +66,19 @@ pub away : (l : LayoutParts) (s : Memory) (block frame : ℕ) → IsWellPlaced l
     → block_of l frame ≢ block
 away l s block frame p off some same =
     let here : is_unplugged (row_of s.blocks (block_of l frame)) ≡ true = rw same off in
-    let one : offline_places l s frame ≡ 1 = ap (λ (t : Bool). cond t 1 0) here in
+    let one : offline_places l s frame ≡ 1 = rw here in
     omega (arith, p.once frame)
 
 -- ---- another row
+
+-- a kernel's block stays where the rows of blocks in use do
+pub kernel_kept : (l : LayoutParts) (rows now : List Row) (first : ℕ) (entry : Option ℕ)
+    → ((order : ℕ) → entry ≡ Some order
+    → row_at l now (pageblock_of l first) ≡ row_at l rows (pageblock_of l first))
+    → IfSome entry (IsKernelAt l rows first) → IfSome entry (IsKernelAt l now first)
+kernel_kept l rows now first None same k = tt
+kernel_kept l rows now first (Some order) same k =
+    record { in_order = k.in_order; aligned = k.aligned; normal = rw (same order refl) k.normal }
 
 pub row_at-other : (l : LayoutParts) (rows : List Row) (block frame : ℕ) (row : Row)
     → block_of l frame ≢ block
@@ -118,14 +122,12 @@ pub plain_kinds : (l : LayoutParts) (s : Memory) (block : ℕ) → IsWellPlaced 
     → is_unplugged (row_of s.blocks block) ≡ true → HasPlainKinds l s block
 plain_kinds l s block p off =
     let row : Row = row_of s.blocks block in
-    let none : row.zone ≡ None = unplugged_zone row.state row.zone row.claim off (p.in_order.rows block) in
+    let none : row.zone ≡ None = unplugged_zone _ _ _ off (p.in_order.rows block) in
     record {
       mobility =
-          λ pageblock e. movable (kind_at s.free.areas.kinds pageblock).mobility
-          (row_at l s.blocks.rows pageblock).zone (p.in_order.mobility pageblock)
-          (subst (λ (b : ℕ). (row_of s.blocks b).zone ≡ None) (sym e) none);
-      isolated =
-          λ pageblock e. rw (p.in_order.isolated pageblock, e) (unplugged_stays row.state off);
+          λ pageblock e. movable _ (row_at l s.blocks.rows pageblock).zone (p.in_order.mobility pageblock)
+          (rw e none);
+      isolated = λ pageblock e. rw (p.in_order.isolated pageblock, e) (unplugged_stays _ off);
     }
 
 -- the row of an unplugged block changes to any other that isn't going
@@ -143,28 +145,20 @@ row-in_order l s block row p off low is still =
     (away l s block first p off (omega arith)))) (areas_of l s p) in
     record {
       shape =
-          record {
-            lists = h.shape.lists;
-            kinds = h.shape.kinds;
-            cached = h.shape.cached;
-            owners = h.shape.owners;
-            pages = h.shape.pages;
-            content_owners = h.shape.content_owners;
-            content_pages = h.shape.content_pages;
-            kernel = h.shape.kernel;
-            rows = length-set s.blocks.rows block row ∙ h.shape.rows;
-          };
+          reshaped l s _ _ _ h.shape h.shape.lists h.shape.kinds h.shape.cached h.shape.kernel
+          (length-set s.blocks.rows block row ∙ h.shape.rows);
       blocks = ordered.blocks;
       joined = h.joined;
       cached = λ cpu pool frame on.
           let some : 1 ≤ cached_places s.free frame = on_cached s.free cpu pool frame on in
-          pool_at-other l s.free.areas.kinds s.blocks.rows block frame row
+          pool_at-other l _ _ block frame row
           (away l s block frame p off (omega arith)) ∙ h.cached cpu pool frame on;
-      kernel = λ first. kernel_at first (kernel_order s first) refl (h.kernel first);
+      kernel =
+          λ first. kernel_kept l s.blocks.rows _ first (kernel_order s first)
+          (λ order e. row_at-other l _ block first row
+          (away l s block first p off (omega (arith, kernel_some s first order e)))) (h.kernel first);
       mobility = λ pageblock unmovable. elim (cases_eq (block_of_pageblock l pageblock) block) [
-        | inl same ↦
-            absurd (apart (kind_at s.free.areas.kinds pageblock).mobility unmovable
-            (plain.mobility pageblock same))
+        | inl same ↦ cc (unmovable, plain.mobility pageblock same)
         | inr ne ↦
             ap (λ (r : Row). r.zone) (get_or-set_other s.blocks.rows block (block_of_pageblock l pageblock)
             row offline_row ne) ∙ h.mobility pageblock unmovable
@@ -177,26 +171,9 @@ row-in_order l s block row p off low is still =
             h.isolated pageblock ∙ sym (ap is_going
             (get_or-set_other s.blocks.rows block (block_of_pageblock l pageblock) row offline_row ne))
       ];
-      rows = get_or-cases (λ (b : ℕ) (r : Row). IsRow r) s.blocks.rows block row offline_row short is h.rows;
+      rows = get_or-cases (λ (b : ℕ) (r : Row). IsRow r) _ block row _ short is h.rows;
       words = h.words;
     }
-  where
-    apart : (m : Mobility) → m ≡ Unmovable → m ≡ Movable → ⊥
-    apart m e f = cc
-
-    kernel_at : (first : ℕ) (entry : Option ℕ) → kernel_order s first ≡ entry
-        → IfSome entry (IsKernelAt l s.blocks.rows first)
-        → IfSome entry (IsKernelAt l (set s.blocks.rows block row) first)
-    kernel_at first None e k = tt
-    kernel_at first (Some order) e k =
-        let some : 1 ≤ kernel_places s first = kernel_some s first order e in
-        record {
-          in_order = k.in_order;
-          aligned = k.aligned;
-          normal =
-              ap (λ (r : Row). r.zone) (row_at-other l s.blocks.rows block first row
-              (away l s block first p off (omega arith))) ∙ k.normal;
-        }
 
 -- ---- Remove, and Probe of a block that stays offline
 

@@ -1,5 +1,5 @@
 -- The steps of histories that follow one another are the steps of one run.
-use Rattle.std.proofs.Common.{◌≡◌, ℕ, zero, suc, ◌+◌, ◌-◌, ◌<◌, ◌≤◌, List, [], ◌∷◌, ◌++◌, length, take, Some, slice_get, refl, ap, sym, subst, ◌∙◌, arith, ◌⊎◌, inl, inr}
+use Rattle.std.proofs.Common.{◌≡◌, ℕ, zero, suc, ◌+◌, ◌-◌, ◌<◌, ◌≤◌, List, [], ◌∷◌, ◌++◌, length, take, Some, slice_get, refl, ap, sym, ◌∙◌, arith, ◌⊎◌, inl, inr}
 use Rattle.std.proofs.Math.Seq.{take-append-add}
 use Rattle.std.proofs.lemmas.Bool.{cases_lt, le-ltb, lt-ltb}
 use Rattle.std.proofs.lemmas.List.{append-nil, append_assoc, take-append-le, take_all}
@@ -69,7 +69,7 @@ numbered_both before mid last a b low high first second = record {
 -- the state before a step of the second list
 pub run_past : (l : LayoutParts) (base : Memory) (a b : List Record) (place k : ℕ) → place ≡ length a + k
     → run l base (take place (a ++ b)) ≡ run l (run l base a) (take k b)
-run_past l base a b place k is = rw (is, take-append-add a b k) (run-append l base a (take k b))
+run_past l base a b place k is = rw (is, take-append-add a b k) (run-append l base a _)
 
 -- steps that succeed, and then more that do
 good_both : (l : LayoutParts) (base : Memory) (a b : List Record) → AllGood l base a
@@ -78,7 +78,7 @@ good_both l base a b first second i r e = elim (get_append_cases a b i r e) [
   | inl at ↦
       let le : i ≤ length a = omega (arith, slice_get_within a i r at) in
       rw (take-append-le i a b le) (first i r at)
-  | inr past ↦ rw (run_past l base a b i past.place past.sum) (second past.place r past.here)
+  | inr past ↦ rw (run_past l base a b i _ past.sum) (second past.place r past.here)
 ]
 
 -- ---- histories one after another
@@ -109,9 +109,8 @@ steps_of_all l base before (h ∷ hs) legal =
     let sum : (before + length h) + count_of_all hs ≡ before + (length h + count_of_all hs) = omega arith in
     record {
       numbered =
-          numbered_both before (before + length h) (before + (length h + count_of_all hs)) (net_of h)
-          (net_of_all hs) (omega arith) (omega arith) (numbered_net l base before h legal.0)
-          (subst (λ (n : ℕ). Numbered (before + length h) n (net_of_all hs)) sum rest.numbered);
+          numbered_both before _ _ _ _ (omega arith) (omega arith) (numbered_net l base before h legal.0)
+          (rw (← sum) rest.numbered);
       good = good_both l base (net_of h) (net_of_all hs) (net_good l base before h legal.0) rest.good;
       value = rest.value ∙ sym (run-append l base (net_of h) (net_of_all hs));
     }
@@ -157,24 +156,23 @@ pub all_more : (l : LayoutParts) (base : Memory) (before : ℕ) (hs : List (List
     → AreLegal l base before (hs ++ g ∷ [])
 all_more l base before [] g legal last =
     let none : before + 0 ≡ before = omega arith in
-    (subst (λ (n : ℕ). IsLegal l base n g) none last, tt)
+    (rw (← none) last, tt)
 all_more l base before (h ∷ hs) g legal last =
     let sum : before + (length h + count_of_all hs) ≡ (before + length h) + count_of_all hs = omega arith in (
       legal.0,
       all_more l (value_of l base h) (before + length h) hs g legal.1
-          (subst (λ (n : ℕ). IsLegal l (value_of_all l (value_of l base h) hs) n g) sum last),
+          (rw (← sum) last),
     )
 
 -- up to one of the records of one of them
 pub legal_up_to : (l : LayoutParts) (base : Memory) (before : ℕ) (h rest : List Record) (r : Record)
     → IsLegal l base before (h ++ r ∷ rest) → IsLegal l base before (h ++ r ∷ [])
-legal_up_to l base before h rest r legal =
-    rw (← first) (legal_take l base before (h ++ r ∷ rest) (length (h ++ r ∷ [])) legal)
+legal_up_to l base before h rest r legal = rw (← first) (legal_take l base before _ _ legal)
   where
     first : take (length (h ++ r ∷ [])) (h ++ r ∷ rest) ≡ h ++ r ∷ []
     first =
         rw (← append_assoc h (r ∷ []) rest) (rw (take-append-le (length (h ++ r ∷ [])) (h ++ r ∷ []) rest
-        (omega arith)) (take_all (length (h ++ r ∷ [])) (h ++ r ∷ []) (omega arith)))
+        (omega arith)) (take_all _ _ (omega arith)))
 
 pub all_up_to : (l : LayoutParts) (base : Memory) (before : ℕ) (hs later : List (List Record))
     (h rest : List Record) (r : Record)
@@ -232,7 +230,7 @@ at_within l base h later count le = elim (cases_lt count (length h)) [
   | inl less ↦ at_inside l base h later count less
   | inr ge ↦
       let nothing : count - length h ≡ 0 = omega (arith, le) in
-      rw (at_past l base h later count ge, nothing, at_none l (value_of l base h) later)
+      rw (at_past l base h later count ge, nothing, at_none l _ later)
       (ap (value_of l base) (sym (take_all count h ge)))
 ]
 
@@ -261,11 +259,11 @@ begin_inside l base before h later place b plan legal at =
     record {
       over = over;
       was =
-          at_inside l base h later (b.serial - before - 1) stands ∙ begin.was
-          ∙ ap (run l base) (sym (take-append-le place (net_of h) (net_of_all later) low));
+          rw (at_inside l base h later _ stands, begin.was)
+          (rw (← take-append-le place (net_of h) (net_of_all later) low));
       is =
-          at_within l base h later (b.serial - before) reached ∙ begin.is
-          ∙ ap (run l base) (sym (take-append-le (suc place) (net_of h) (net_of_all later) next));
+          rw (at_within l base h later _ reached, begin.is)
+          (rw (← take-append-le (suc place) (net_of h) (net_of_all later) next));
     }
 
 -- in a later one
@@ -285,27 +283,22 @@ begin_past l base before h later place k b sum rest =
     record {
       over = omega (arith, over);
       was =
-          rw (at_past l base h later (b.serial - before - 1) past, left, rest.was)
-          (rw (← run_past l base (net_of h) (net_of_all later) place k sum));
+          rw (at_past l base h later _ past, left, rest.was)
+          (rw (← run_past l base _ _ place k sum));
       is =
-          rw (at_past l base h later (b.serial - before) past_it, left_it, rest.is)
-          (rw (← run_past l base (net_of h) (net_of_all later) (suc place) (suc k) next));
+          rw (at_past l base h later _ past_it, left_it, rest.is)
+          (rw (← run_past l base _ _ _ _ next));
     }
 
 pub begin_of_all : (l : LayoutParts) (base : Memory) (before : ℕ) (hs : List (List Record)) (place : ℕ)
     (b : Record) (plan : List Item)
     → AreLegal l base before hs → BeginsAt (net_of_all hs) place b plan
     → IsBeginOfAll l base before hs place b
-begin_of_all l base before [] place b plan legal at = absurd (no_place at.here)
-  where
-    no_place : slice_get [] place ≡ Some b → ⊥
-    no_place e = cc
-begin_of_all l base before (h ∷ hs) place b plan legal at =
-    elim (get_append_cases (net_of h) (net_of_all hs) place b at.here) [
-      | inl here ↦
-          begin_inside l base before h hs place b plan legal.0 (record { here = here; opens = at.opens })
-      | inr past ↦
-          begin_past l base before h hs place past.place b past.sum
-          (begin_of_all l (value_of l base h) (before + length h) hs past.place b plan legal.1
-          (record { here = past.here; opens = at.opens }))
-    ]
+begin_of_all l base before [] place b plan legal at = cc at.here
+begin_of_all l base before (h ∷ hs) place b plan legal at = elim (get_append_cases _ _ place b at.here) [
+  | inl here ↦ begin_inside l base before h hs place b plan legal.0 (record { here = here; opens = at.opens })
+  | inr past ↦
+      begin_past l base before h hs place _ b past.sum
+      (begin_of_all l (value_of l base h) (before + length h) hs past.place b plan legal.1
+      (record { here = past.here; opens = at.opens }))
+]

@@ -14,22 +14,22 @@ use Rattle.hp_units.specs.declared.rows.Mobility.TheVariants.{Unmovable, Movable
 use Rattle.hp_units.specs.LayoutParts.{LayoutParts, IsLayout}
 use Rattle.hp_units.specs.Arithmetic.{pageblock_of, frame_count}
 use Rattle.hp_units.specs.Memory.{FreeAreas, Memory, free_list, with_free_list, usable_class, isolated_class, plain_kind, kernel_order, with_kernel_order}
-use Rattle.hp_units.specs.FreeAreas.{Taken, is_on, with_halves, take_first, take_front, take_block, greatest_order, steal_front, steal_block, with_mobility, other_mobility}
+use Rattle.hp_units.specs.FreeAreas.{Taken, is_on, with_halves, take_first, take_block, steal_front, steal_block, with_mobility, other_mobility}
 use Rattle.hp_units.specs.Rows.{with_areas}
 use Rattle.hp_units.specs.Step.{kernel_takes, with_free, done}
 use Rattle.hp_units.specs.ProcessorLists.{handed_from}
 use Rattle.hp_units.specs.declared.replies.Reply.TheVariants.{Frame as GivesFrame}
 use Rattle.hp_units.specs.Placement.{free_places, cached_places, kernel_places, IsBlockOf, IsInOrder, IsWellPlaced, class_at, row_at, kind_at, covered}
-use Rattle.hp_lemmas.proofs.Places.{list_places-cons, HasOrder, with_free_list-places, with_halves-places, greatest_order-among}
-use Rattle.hp_lemmas.proofs.Geometry.{multiple, below_aligned, pageblock_in}
-use Rattle.hp_lemmas.proofs.Lists.{covered-self}
-use Rattle.hp_lemmas.proofs.Parts.{IsPart, tail-part}
-use Rattle.hp_lemmas.proofs.Sizes.{halves-kinds}
+use Rattle.hp_units.proofs.Places.{list_places-cons, HasOrder, with_free_list-places, with_halves-places, greatest_order-among}
+use Rattle.hp_units.proofs.Geometry.{multiple, below_aligned, pageblock_in}
+use Rattle.hp_units.proofs.ListEdits.{covered-self}
+use Rattle.hp_units.proofs.ListParts.{IsPart, tail-part}
+use Rattle.hp_units.proofs.Sizes.{halves-kinds}
 use Rattle.hp_laws.proofs.Ordered.{AreOrdered}
 use Rattle.hp_laws.proofs.Areas.{has_order, part-ordered, halves-ordered, other-ordered}
 use Rattle.hp_laws.proofs.Takes.{TakesOrdered, take_first-ordered, take_block-ordered, and_then-ordered}
-use Rattle.hp_laws.proofs.States.{areas_of, areas-in_order, kernel-in_order, in_layout, kernel_free}
-use Rattle.hp_lemmas.proofs.KernelBlocks.{kernel-places}
+use Rattle.hp_laws.proofs.States.{areas_of, areas-in_order, kernel-in_order, in_layout, kernel_free, reshaped}
+use Rattle.hp_units.proofs.KernelBlockFrames.{kernel-places}
 use Rattle.hp_laws.proofs.Rows.{on_cached}
 use Rattle.hp_laws.proofs.Onlines.{inside}
 use Rattle.hp_laws.proofs.Options.{some_weaker}
@@ -69,23 +69,21 @@ pub taken-placed : (l : LayoutParts) (s : Memory) (m : Mobility) (order : ℕ) (
 taken-placed l s m order taken p t =
     let kind : Kind = kind_at s.free.areas.kinds (pageblock_of l taken.frame) in
     record {
-      in_order = areas-in_order l s taken.areas p.in_order t.ordered t.kinds;
+      in_order = areas-in_order l s _ p.in_order t.ordered t.kinds;
       places = t.places;
       aligned = t.block.aligned;
       zone_is =
-          (open_normal (row_at l s.blocks.rows (pageblock_of l taken.frame)).zone kind.isolated kind.mobility
-          m
+          (open_normal _ _ _ m
           t.block.class_agrees).zone_is;
       shown =
-          (open_normal (row_at l s.blocks.rows (pageblock_of l taken.frame)).zone kind.isolated kind.mobility
-          m
+          (open_normal _ _ _ m
           t.block.class_agrees).shown;
     }
 
 in_pageblock : (l : LayoutParts) (frame first : ℕ) → first % 2 ^ l.order ≡ 0
     → pageblock_of l frame ≡ pageblock_of l first → covered frame l.order first ≡ 1
 in_pageblock l frame first aligned e =
-    rw (multiple first l.order aligned) (inside frame (2 ^ l.order) (first / 2 ^ l.order) (pow_pos l.order) e)
+    rw (multiple first _ aligned) (inside frame (2 ^ l.order) (first / 2 ^ l.order) (pow_pos l.order) e)
 
 -- a whole pageblock is stolen: what is written of its kind is written at once
 steal_whole : (l : LayoutParts) (s : Memory) (m from : Mobility) (wanted first : ℕ) (frames : List ℕ)
@@ -108,8 +106,7 @@ steal_whole l s m from wanted first frames layout p w e =
     let kind : Kind = record (kind_at a.kinds at) { mobility = m } in
     let same : halves.kinds ≡ a.kinds = halves-kinds left to first wanted (l.order - wanted) in
     let ordered : AreOrdered l (class_at l a.kinds s.blocks.rows) a = areas_of l s p in
-    let has : HasOrder a l.order =
-    has_order l (class_at l a.kinds s.blocks.rows) a l.order ordered (omega arith) in
+    let has : HasOrder a l.order = has_order l _ a _ ordered (omega arith) in
     let on : is_on first (free_list a class l.order) ≡ true =
     rw e (or_left (first == first) (is_on first frames) (eq-eqb first first refl)) in
     let block : IsBlockOf l (class_at l a.kinds s.blocks.rows) class l.order first =
@@ -121,13 +118,13 @@ steal_whole l s m from wanted first frames layout p w e =
     omega (
       arith,
       h.shape.kinds,
-      pageblock_in l first (in_layout l s first NormalZone layout h.shape.rows normal.zone_is),
+      pageblock_in l first (in_layout l s first _ layout h.shape.rows normal.zone_is),
     ) in
-    let part = subst (λ (xs : List ℕ). IsPart l.order frames xs) (sym e) (tail-part l.order first frames) in
+    let part = subst (λ (xs : List ℕ). IsPart l.order frames xs) (sym e) (tail-part _ first frames) in
     let without : (frame : ℕ) → free_places left frame + covered frame l.order first ≡ free_places a frame =
     λ frame. omega (
       arith,
-      rw e at (with_free_list-places a class l.order frame frames has),
+      rw e at (with_free_list-places a class _ frame frames has),
       list_places-cons frame l.order first frames,
     ) in
     let now : get_or (set a.kinds at kind) at plain_kind ≡ kind =
@@ -137,10 +134,9 @@ steal_whole l s m from wanted first frames layout p w e =
     ≡ get_or a.kinds (pageblock_of l frame) plain_kind =
     λ frame ne. get_or-set_other a.kinds at (pageblock_of l frame) kind plain_kind ne in
     let cleared : AreOrdered l (class_at l (set a.kinds at kind) s.blocks.rows) left =
-    other-ordered l (class_at l a.kinds s.blocks.rows) (class_at l (set a.kinds at kind) s.blocks.rows) left
-    (λ frame some. rw (other frame (λ here. absurd
+    other-ordered l _ _ left (λ frame some. rw (other frame (λ here. absurd
     (omega (arith, in_pageblock l frame first block.aligned here, without frame, ordered.few frame)))))
-    (part-ordered l (class_at l a.kinds s.blocks.rows) a class l.order frames (omega arith) part ordered) in
+    (part-ordered l _ a class _ frames (omega arith) part ordered) in
     let agrees : class_at l (set a.kinds at kind) s.blocks.rows at ≡ Some to =
     rw (now, normal.zone_is, normal.shown) in
     let sum : wanted + (l.order - wanted) ≡ l.order = omega arith in
@@ -152,17 +148,8 @@ steal_whole l s m from wanted first frames layout p w e =
     (rw sum new) (rw sum (λ frame. omega (arith, without frame, ordered.few frame))) cleared in
     let stolen : IsInOrder l (with_areas s (record halves { kinds = set a.kinds at kind })) = record {
       shape =
-          record {
-            lists = put.lists;
-            kinds = length-set a.kinds at kind ∙ h.shape.kinds;
-            cached = h.shape.cached;
-            owners = h.shape.owners;
-            pages = h.shape.pages;
-            content_owners = h.shape.content_owners;
-            content_pages = h.shape.content_pages;
-            kernel = h.shape.kernel;
-            rows = h.shape.rows;
-          };
+          reshaped l s _ _ _ h.shape put.lists (length-set a.kinds at kind ∙ h.shape.kinds) h.shape.cached
+          h.shape.kernel h.shape.rows;
       blocks = put.blocks;
       joined = put.joined;
       cached = λ cpu pool frame there.
@@ -217,24 +204,16 @@ steal_front-placed : (l : LayoutParts) (s : Memory) (m : Mobility) (order wanted
     → IfSome (steal_front l s.free.areas m order wanted) (TakesPlaced l s NormalZone wanted)
 steal_front-placed l s m order wanted layout p low w =
     let from : Class = usable_class NormalZone (other_mobility m) in
-    cond_some (TakesPlaced l s NormalZone wanted) (order == l.order) _ _
-    (λ e. rw (eqb-true order l.order e) (steal_top l s m (other_mobility m) wanted
-    (free_list s.free.areas from l.order) layout p (omega arith) refl))
-    (λ e. some_weaker (TakesOrdered l (class_at l s.free.areas.kinds s.blocks.rows) s.free.areas from wanted)
-    (TakesPlaced l s NormalZone wanted)
-    (λ taken t. taken-placed l s (other_mobility m) wanted taken p t)
-    (take_front s.free.areas from from order wanted)
-    (take_first-ordered l (class_at l s.free.areas.kinds s.blocks.rows) s.free.areas from order wanted
-    (free_list s.free.areas from order) refl low w (areas_of l s p)))
+    cond_some _ _ _ _ (λ e. rw (eqb-true order l.order e) (steal_top l s m _ wanted
+    _ layout p (omega arith) refl)) (λ e. some_weaker _ _ (λ taken t. taken-placed l s _ wanted taken p t) _
+    (take_first-ordered l _ _ from order wanted _ refl low w (areas_of l s p)))
 
 pub steal_block-placed : (l : LayoutParts) (s : Memory) (m : Mobility) (wanted : ℕ) → IsLayout l
     → IsWellPlaced l s
     → IfSome (steal_block l s.free.areas m wanted) (TakesPlaced l s NormalZone wanted)
 unfolding steal_block
 steal_block-placed l s m wanted layout p =
-    and_then-ordered (TakesPlaced l s NormalZone wanted) wanted (l.order + 1 - wanted)
-    (λ order. steal_front l s.free.areas m order wanted)
-    (greatest_order s.free.areas (usable_class NormalZone (other_mobility m)) wanted (l.order + 1 - wanted))
+    and_then-ordered _ wanted _ (λ order. steal_front l s.free.areas m order wanted) _
     (greatest_order-among s.free.areas (usable_class NormalZone (other_mobility m)) wanted
     (l.order + 1 - wanted))
     (λ order among.
@@ -246,16 +225,14 @@ pub kernel_taken-placed : (l : LayoutParts) (s : Memory) (order : ℕ) (taken : 
     → IsWellPlaced l s → order ≤ l.order → TakesPlaced l s NormalZone order taken
     → IsWellPlaced l (with_kernel_order (with_areas s taken.areas) taken.frame (Some order))
 kernel_taken-placed l s order taken layout p low t =
-    let within : taken.frame < frame_count l =
-    in_layout l s taken.frame NormalZone layout p.in_order.shape.rows t.zone_is in
+    let within : taken.frame < frame_count l = in_layout l s _ _ layout p.in_order.shape.rows t.zone_is in
     let short : taken.frame < length s.kernel = omega (arith, p.in_order.shape.kernel) in
     let gone : kernel_places s taken.frame ≡ 0 =
     omega (arith, p.once taken.frame, t.places taken.frame, covered-self order taken.frame) in
-    let none : kernel_order s taken.frame ≡ None =
-    kernel_free l s taken.frame (kernel_order s taken.frame) refl short gone in
+    let none : kernel_order s taken.frame ≡ None = kernel_free l s _ _ refl short gone in
     record {
       in_order =
-          kernel-in_order l (with_areas s taken.areas) taken.frame (Some order) t.in_order within
+          kernel-in_order l _ _ _ t.in_order within
           (record { in_order = low; aligned = t.aligned; normal = t.zone_is });
       once =
           λ frame. omega (
@@ -282,16 +259,13 @@ kernel_large-placed l s below layout p =
     (TakesPlaced l s NormalZone (suc below))
     (λ t h. taken-placed l s Unmovable (suc below) t p h) (take_block l s.free.areas Nu (suc below))
     (take_block-ordered l (class_at l s.free.areas.kinds s.blocks.rows) s.free.areas Nu (suc below)
-    (areas_of l s p)))
-    (steal_block-placed l s Unmovable (suc below) layout p)
+    (areas_of l s p))) (steal_block-placed l s _ _ layout p)
 
 pub kernel_takes-placed : (l : LayoutParts) (s : Memory) (cpu below : ℕ) → IsLayout l → IsWellPlaced l s
     → suc below ≤ l.order
     → IsWellPlaced l (kernel_takes l s cpu (suc below)).memory
 unfolding kernel_takes
-kernel_takes-placed l s cpu below layout p low =
-    taken (option_or (take_block l s.free.areas Nu (suc below))
-    (steal_block l s.free.areas Unmovable (suc below))) (kernel_large-placed l s below layout p)
+kernel_takes-placed l s cpu below layout p low = taken _ (kernel_large-placed l s below layout p)
   where
     taken : (o : Option Taken) → IfSome o (TakesPlaced l s NormalZone (suc below))
         → IsWellPlaced l
@@ -301,4 +275,4 @@ kernel_takes-placed l s cpu below layout p low =
           reply = GivesFrame handed.frame;
         }) (handed_from s.free o) (done s)).memory
     taken None h = p
-    taken (Some t) h = kernel_taken-placed l s (suc below) t layout p low h
+    taken (Some t) h = kernel_taken-placed l s _ t layout p low h

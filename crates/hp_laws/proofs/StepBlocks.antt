@@ -2,10 +2,8 @@
 use Rattle.std.proofs.Common.{◌≡◌, ℕ, zero, suc, Option, Some, None, refl}
 use Rattle.std.specs.Option.{option_map_or}
 use Rattle.hp_units.specs.LayoutParts.{LayoutParts}
-use Rattle.hp_units.specs.Memory.{Memory, kernel_order, with_kernel_order}
+use Rattle.hp_units.specs.Memory.{Memory}
 use Rattle.hp_units.specs.Pages.{frame_at, unmap_page}
-use Rattle.hp_units.specs.ProcessorLists.{page_frame}
-use Rattle.hp_units.specs.KernelBlocks.{kernel_block}
 use Rattle.hp_units.specs.Step.{Answered, done, give_back, kernel_gives, kernel_takes, map_step, unmap_step, with_pages}
 
 -- whether there is what the event asks for or not
@@ -24,21 +22,19 @@ give_back-blocks l s cpu frame (suc below) = refl
 pub kernel_takes-blocks : (l : LayoutParts) (s : Memory) (cpu order : ℕ)
     → (kernel_takes l s cpu order).memory.blocks ≡ s.blocks
 unfolding kernel_takes
-kernel_takes-blocks l s cpu order = answered-blocks _ s (kernel_block l s.free cpu order) (λ handed. refl)
+kernel_takes-blocks l s cpu order = answered-blocks _ s _ (λ handed. refl)
 
 -- the kernel gives one back
 pub kernel_gives-blocks : (l : LayoutParts) (s : Memory) (cpu frame : ℕ)
     → (kernel_gives l s cpu frame).memory.blocks ≡ s.blocks
 unfolding kernel_gives
-kernel_gives-blocks l s cpu frame =
-    answered-blocks _ s (kernel_order s frame)
-    (λ order. give_back-blocks l (with_kernel_order s frame None) cpu frame order)
+kernel_gives-blocks l s cpu frame = answered-blocks _ s _ (give_back-blocks l _ cpu frame)
 
 -- a page is mapped
 pub map_step-blocks : (l : LayoutParts) (s : Memory) (cpu owner page : ℕ)
     → (map_step l s cpu owner page).memory.blocks ≡ s.blocks
 unfolding map_step
-map_step-blocks l s cpu owner page = answered-blocks _ s (page_frame l s.free cpu) (λ handed. refl)
+map_step-blocks l s cpu owner page = answered-blocks _ s _ (λ handed. refl)
 
 -- a page is unmapped
 pub unmap_step-blocks : (l : LayoutParts) (s : Memory) (cpu owner page : ℕ)

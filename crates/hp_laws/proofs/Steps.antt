@@ -8,8 +8,7 @@ use Rattle.hp_units.specs.Memory.{Memory, kernel_order}
 use Rattle.hp_units.specs.ProcessorLists.{page_frame}
 use Rattle.hp_units.specs.Pages.{frame_at}
 use Rattle.hp_units.specs.KernelBlocks.{kernel_block}
-use Rattle.hp_units.specs.Migrations.{migration_source, migration_target}
-use Rattle.hp_units.specs.Refusals.{refusal_of}
+use Rattle.hp_units.specs.Migrations.{migration_target}
 use Rattle.hp_units.specs.Step.{Answered, answer, kernel_gives, kernel_takes, map_step, migrate_step, perform, step, unmap_step}
 use Rattle.hp_units.specs.History.{Looks, effect_of, goes_back, is_look, is_refused}
 
@@ -35,7 +34,7 @@ made a good on acts opens =
 -- done, of an event that is no Read
 finished : {s : Memory} {serial : ℕ} {event : Event} (t : Memory) → (effect_of event ≡ Looks → ⊥)
     → IsOnward s serial event (record { memory = t; reply = Done })
-finished t acts = made (record { memory = t; reply = Done }) refl refl acts (λ op e. absurd cc)
+finished t acts = made _ refl refl acts (λ op e. absurd cc)
 
 -- by whether there is what the event asks for
 by_option : {A : Type 0} {s : Memory} {serial : ℕ} {event : Event} (f : A → Answered) (o : Option A)
@@ -79,8 +78,7 @@ migrated : (l : LayoutParts) (s : Memory) (serial op : ℕ)
     → IsOnward s serial (Migrate op) (migrate_step l s op)
 unfolding migrate_step
 migrated l s serial op =
-    by_option _ (migration_source l s op) _
-    (λ from. by_option _ (migration_target l s.free.areas) _
+    by_option _ _ _ (λ from. by_option _ (migration_target l s.free.areas) _
     (λ taken. made _ refl refl (λ e. cc) (λ op e. absurd cc)) (finished s (λ e. cc)))
     (finished s (λ e. cc))
 
@@ -107,7 +105,7 @@ answered l s serial cpu event (Some refusal) = left _ refl refl (λ op e. absurd
 pub steps : (l : LayoutParts) (s : Memory) (serial cpu : ℕ) (event : Event)
     → IsOnward s serial event (step l s serial cpu event)
 unfolding step
-steps l s serial cpu event = answered l s serial cpu event (refusal_of l s cpu event)
+steps l s serial cpu event = answered l s serial cpu event _
 
 -- an event that only reads
 pub is_look_effect : (event : Event) → is_look event ≡ true → effect_of event ≡ Looks

@@ -13,7 +13,7 @@ use Rattle.hp_units.specs.Rows.{is_absent_state, is_offline_state}
 use Rattle.hp_units.specs.Step.{with_pages}
 use Rattle.hp_units.specs.Placement.{IsInOrder, IsPage, IsRowOf, is_unplugged, offline_places, row_at}
 use Rattle.hp_laws.proofs.States.{block_of-pageblock}
-use Rattle.hp_lemmas.proofs.Tables.{IsTable, contents_of, entry-apart, entry-cases, entry-same, table_of, with_entry-table}
+use Rattle.hp_units.proofs.Tables.{IsTable, contents_of, entry-apart, entry-cases, entry-same, table_of, with_entry-table}
 
 -- ---- the pages of a state
 
@@ -52,17 +52,11 @@ pub both-in_order : (l : LayoutParts) (s : Memory) (owner page : ℕ) (f : Optio
 both-in_order l s owner page f w low short h is =
     let table = table_of l s h in
     let contents = contents_of l s h in
-    pages-in_order l s (record s.pages {
-      table = with_entry s.pages.table owner page f;
-      contents = with_entry s.pages.contents owner page w;
-    }) h
-    (with_entry-table l.owners l.pages s.pages.table owner page f low table)
-    (with_entry-table l.owners l.pages s.pages.contents owner page w low contents)
-    (entry-cases
+    pages-in_order l s _ h (with_entry-table _ _ _ owner page f low table)
+    (with_entry-table _ _ _ owner page w low contents) (entry-cases
     (λ (o p : ℕ) (e : Option ℕ). IsPage l e (entry_of (with_entry s.pages.contents owner page w) o p))
-    l.owners l.pages s.pages.table owner page f low short table
-    (rw (entry-same l.owners l.pages s.pages.contents owner page w low short contents) is)
-    (λ o p elsewhere. rw (entry-apart s.pages.contents owner page w o p elsewhere) (h.words o p)))
+    _ _ _ owner page f low short table (rw (entry-same _ _ _ owner page w low short contents) is)
+    (λ o p elsewhere. rw (entry-apart _ owner page w o p elsewhere) (h.words o p)))
 
 -- a frame that is mapped has a zone
 pub record HasZone (l : LayoutParts) (rows : List Row) (frame : ℕ) : Type 0 where
@@ -83,7 +77,7 @@ pub live_row : (l : LayoutParts) (s : Memory) (frame : ℕ) → IsInOrder l s �
 live_row l s frame h e =
     let row : Row = row_of s.blocks (block_of l frame) in
     let found =
-    live_zone row.state row.zone row.claim (plugged (is_unplugged row) (offline_places l s frame) refl e)
+    live_zone _ _ _ (plugged (is_unplugged row) (offline_places l s frame) refl e)
     (h.rows (block_of l frame)) in
     record {
       zone = found.0;

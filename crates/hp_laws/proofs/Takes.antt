@@ -5,12 +5,12 @@ use Rattle.std.proofs.lemmas.Bool.{or_left}
 use Rattle.hp_units.specs.declared.rows.Class.{Class}
 use Rattle.hp_units.specs.LayoutParts.{LayoutParts}
 use Rattle.hp_units.specs.Memory.{FreeAreas, free_list, with_free_list}
-use Rattle.hp_units.specs.FreeAreas.{Taken, is_on, least_order, take_first, take_front, take_block}
+use Rattle.hp_units.specs.FreeAreas.{Taken, is_on, take_first, take_front, take_block}
 use Rattle.hp_units.specs.Placement.{free_places, IsBlockOf, covered}
-use Rattle.hp_lemmas.proofs.Places.{list_places-cons, with_free_list-places, with_halves-places, least_order-among, IsOrderAmong}
-use Rattle.hp_lemmas.proofs.Geometry.{below_aligned}
-use Rattle.hp_lemmas.proofs.Parts.{IsPart, tail-part}
-use Rattle.hp_lemmas.proofs.Sizes.{halves-kinds}
+use Rattle.hp_units.proofs.Places.{list_places-cons, with_free_list-places, with_halves-places, least_order-among, IsOrderAmong}
+use Rattle.hp_units.proofs.Geometry.{below_aligned}
+use Rattle.hp_units.proofs.ListParts.{IsPart, tail-part}
+use Rattle.hp_units.proofs.Sizes.{halves-kinds}
 use Rattle.hp_laws.proofs.Ordered.{AreOrdered}
 use Rattle.hp_laws.proofs.Areas.{has_order, part-ordered, halves-ordered}
 
@@ -41,7 +41,7 @@ take_first-ordered l class_at a class order wanted (first ∷ frames) e low w h 
     let without : (frame : ℕ) → free_places left frame + covered frame order first ≡ free_places a frame =
     λ frame. omega (
       arith,
-      rw e at (with_free_list-places a class order frame frames (has_order l class_at a order h low)),
+      rw e at (with_free_list-places a class order frame frames (has_order l _ a order h low)),
       list_places-cons frame order first frames,
     ) in
     let room : (frame : ℕ) → free_places left frame + covered frame (wanted + (order - wanted)) first ≤ 1 =
@@ -49,7 +49,7 @@ take_first-ordered l class_at a class order wanted (first ∷ frames) e low w h 
     let block' : IsBlockOf l class_at class (wanted + (order - wanted)) first = rw sum block in
     record {
       ordered =
-          halves-ordered l class_at left class first wanted (order - wanted) (omega arith) block' room
+          halves-ordered l _ left class first wanted _ (omega arith) block' room
           ordered;
       places = λ frame.
           let halves =
@@ -58,7 +58,7 @@ take_first-ordered l class_at a class order wanted (first ∷ frames) e low w h 
           omega (arith, halves, without frame);
       block =
           record {
-            aligned = below_aligned wanted (order - wanted) first block'.aligned;
+            aligned = below_aligned wanted _ first block'.aligned;
             class_agrees = block.class_agrees;
           };
       kinds = halves-kinds left class first wanted (order - wanted);
@@ -76,8 +76,6 @@ pub take_block-ordered : (l : LayoutParts) (class_at : ℕ → Option Class) (a 
     → IfSome (take_block l a class wanted) (TakesOrdered l class_at a class wanted)
 unfolding take_block
 take_block-ordered l class_at a class wanted h =
-    and_then-ordered (TakesOrdered l class_at a class wanted) wanted (l.order + 1 - wanted)
-    (λ order. take_front a class class order wanted) (least_order a class wanted (l.order + 1 - wanted))
-    (least_order-among a class wanted (l.order + 1 - wanted))
-    (λ order among. take_first-ordered l class_at a class order wanted (free_list a class order) refl
+    and_then-ordered _ wanted _ (λ order. take_front a class class order wanted) _
+    (least_order-among a class wanted _) (λ order among. take_first-ordered l _ a class order wanted _ refl
     (omega (arith, among.low, among.high)) among.low h)

@@ -7,8 +7,8 @@ use Rattle.std.proofs.lemmas.List.Sums.{sum_by-cons}
 use Rattle.std.specs.Option.{option_map}
 use Rattle.std.proofs.lemmas.Bool.{cases_lt, cases_Bool, and_parts, and_from, le-leb, lt-leb, lt-ltb, le-ltb}
 use Rattle.hp_units.specs.Marks.{sole_at, is_opening, is_work_of, begins, holds_only_own_work, tag_of}
-use Rattle.hp_laws.proofs.Names.{Mark, Opens, Works, Other, Tag, Record}
-use Rattle.hp_units.specs.History.{Effect, Looks, Undoes, Cancels, Acts, effect_of, is_refused, steps_until, count_above, cut_or_add, net_with_effect, net_with}
+use Rattle.hp_laws.proofs.Names.{Mark, Opens, Tag, Record}
+use Rattle.hp_units.specs.History.{Effect, Looks, Undoes, Cancels, Acts, is_refused, steps_until, count_above, cut_or_add, net_with_effect, net_with}
 use Rattle.hp_laws.proofs.Net.{Numbered}
 
 -- the steps up to a serial are a beginning, where the serials before the place are at most it and
@@ -24,7 +24,7 @@ steps_until_at s (r ∷ n) zero le low high =
     rw (lt-leb r.serial s (high zero r (omega arith) refl)) (steps_until_at s n zero (omega arith)
     (λ i x lt e. absurd (omega arith)) (λ i x ge e. high (suc i) x (omega arith) e))
 steps_until_at s (r ∷ n) (suc k) le low high =
-    rw (le-leb r.serial s (low zero r (omega arith) refl)) (ap (λ ys. r ∷ ys) (steps_until_at s n k
+    rw (le-leb r.serial s (low zero r (omega arith) refl)) (rw (steps_until_at s n k
     (omega arith) (λ i x lt e. low (suc i) x (omega arith) e) (λ i x ge e. high (suc i) x (omega arith) e)))
 
 -- and how many are above it, there
@@ -76,7 +76,7 @@ split_place before last s (r ∷ n) ok =
         × ((i : ℕ) (x : Record) → k ≤ i → slice_get n i ≡ Some x → s < x.serial)
         → (k : ℕ) × (k ≤ length (r ∷ n)) × ((i : ℕ) (x : Record) → i < k → slice_get (r ∷ n) i ≡ Some x
         → x.serial ≤ s) × ((i : ℕ) (x : Record) → k ≤ i → slice_get (r ∷ n) i ≡ Some x → s < x.serial)
-    longer within p = (suc p.0, omega (arith, p.1), λ i x. low i x, λ i x. high i x)
+    longer within p = (suc p.0, omega (arith, p.1), low, high)
       where
         low : (i : ℕ) (x : Record) → i < suc p.0 → slice_get (r ∷ n) i ≡ Some x → x.serial ≤ s
         low zero x lt e = let same : r ≡ x = cc in omega (arith, ap (λ (y : Record). y.serial) same)
@@ -121,15 +121,14 @@ only_from_each op (t ∷ ts) each =
 -- no Begin is an operation's own work
 pub no_opening_works : (op : ℕ) (m : Mark) → is_opening m ≡ true → is_work_of op m ≡ true → ⊥
 no_opening_works op Opens a b = cc
-no_opening_works op (Works o) a b = cc
-no_opening_works op Other a b = cc
+no_opening_works op _ a b = cc
 
 -- the place that is found is sole
 pub sole_sound : (op : ℕ) (ts : List Tag) (k : ℕ) → sole_at op ts ≡ Some k → IsSole op ts k
 unfolding sole_at
 sole_sound op [] k e = absurd cc
 sole_sound op (t ∷ ts) k e =
-    by_test (λ j f. sole_sound op ts j f) (begins op t && holds_only_own_work op ts) refl (sole_at op ts) refl
+    by_test (sole_sound op ts) (begins op t && holds_only_own_work op ts) refl (sole_at op ts) refl
   where
     by_test : ((j : ℕ) → sole_at op ts ≡ Some j → IsSole op ts j) → (b : Bool)
         → (begins op t && holds_only_own_work op ts) ≡ b → (o : Option ℕ) → sole_at op ts ≡ o
@@ -151,7 +150,7 @@ sole_sound op (t ∷ ts) k e =
           tag = deep.tag;
           here = deep.here;
           opens = deep.opens;
-          rest = λ i u lt f. at_rest deep i u lt f;
+          rest = at_rest deep;
         })
       where
         at_rest : IsSole op ts j → (i : ℕ) (u : Tag) → suc j < i → slice_get (t ∷ ts) i ≡ Some u
@@ -168,7 +167,7 @@ sole_complete op (t ∷ ts) zero is =
     only_from_each op ts (λ i u e. is.rest (suc i) u (omega arith) e) in
     rw (subst (λ (x : Tag). begins op x ≡ true) (sym (same_Some t is.tag is.here)) is.opens, only) refl
 sole_complete op (t ∷ ts) (suc k) is =
-    by_test (λ i. sole_complete op ts k i) (begins op t && holds_only_own_work op ts) refl
+    by_test (sole_complete op ts k) (begins op t && holds_only_own_work op ts) refl
   where
     by_test : (IsSole op ts k → sole_at op ts ≡ Some k) → (b : Bool)
         → (begins op t && holds_only_own_work op ts) ≡ b
@@ -197,7 +196,7 @@ sole_none op ts never = by_place (sole_at op ts) refl
 -- a place that is found lies in the net
 pub sole_within : (op : ℕ) (n : List Record) (k : ℕ) → sole_at op (map tag_of n) ≡ Some k → k < length n
 sole_within op n k e =
-    let is = sole_sound op (map tag_of n) k e in
+    let is = sole_sound op _ k e in
     omega (arith, slice_get_within (map tag_of n) k is.tag is.here, length-map n tag_of)
 
 -- what one more record makes of the net: a beginning of it, or one step more
@@ -206,8 +205,8 @@ pub net_cases : (before last : ℕ) (n : List Record) (r : Record) → Numbered 
 unfolding net_with
 net_cases before last n r ok =
     elim (cases_Bool (is_refused r.reply)) [
-      | inl bad ↦ rw bad (inl (length n, omega arith, sym (take_all (length n) n (omega arith))))
-      | inr good ↦ rw good (by_kind (effect_of r.event))
+      | inl bad ↦ rw bad (inl (length n, omega arith, sym (take_all _ n (omega arith))))
+      | inr good ↦ rw good (by_kind _)
     ]
   where
     by_place : (o : Option ℕ) → ((k : ℕ) → o ≡ Some k → k < length n)
@@ -218,7 +217,7 @@ net_cases before last n r ok =
     by_kind : (kind : Effect)
         → ((k : ℕ) × (k ≤ length n) × (net_with_effect n r kind ≡ take k n))
         ⊎ (net_with_effect n r kind ≡ n ++ r ∷ [])
-    by_kind Looks = inl (length n, omega arith, sym (take_all (length n) n (omega arith)))
+    by_kind Looks = inl (length n, omega arith, sym (take_all _ n (omega arith)))
     by_kind (Undoes s) = inl (steps_until_is_take before last s n ok)
-    by_kind (Cancels op) = by_place (sole_at op (map tag_of n)) (λ k e. sole_within op n k e)
+    by_kind (Cancels op) = by_place (sole_at op (map tag_of n)) (sole_within op n)
     by_kind Acts = inr refl

@@ -3,3 +3,5 @@ pub mod Operations
 pub mod Consequences
 pub mod Offline
 pub mod Seals
+pub mod Numberings
+pub mod Renumbered

@@ -10,7 +10,7 @@ use Rattle.hp_units.specs.Memory.{cached_list, kind_of, pool_of}
 use Rattle.hp_units.specs.Rows.{zone_of}
 use Rattle.hp_units.specs.Step.{give_back, with_free}
 use Rattle.hp_units.specs.declared.rows.Zone.{Zone}
-use Rattle.hp_lemmas.proofs.Placed.{size_some}
+use Rattle.hp_units.proofs.Placed.{size_some}
 use Rattle.hp_tape.specs.Bounds.{batch_bound, give_bound}
 use Rattle.hp_layers.specs.Frames.{give_back_bound, given_back}
 use Rattle.hp_layers.proofs.Taken.{steal-few}

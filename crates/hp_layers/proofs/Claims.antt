@@ -18,7 +18,7 @@ use Rattle.hp_tape.specs.Bounds.{move_bound, moved_block_bound}
 use Rattle.hp_tape.specs.Tapes.{HasRoom, NotesBlocks, NotesFree, TapeValue}
 use Rattle.hp_tape.proofs.Leads.{notes-more, notes-none}
 use Rattle.hp_tape.specs.Deltas.{Fits, undo}
-use Rattle.hp_blocks.specs.Blocks.{BlocksValue}
+use Rattle.hp_pages.specs.Blocks.{BlocksValue}
 use Rattle.hp_layers.specs.declared.frames.Frames.{Frames}
 use Rattle.hp_layers.specs.declared.layers.Layers.{Layers}
 use Rattle.hp_layers.specs.Frames.{IsGiven, IsTidy, free_of}

@@ -10,9 +10,9 @@ use Rattle.hp_units.specs.Memory.{FreeAreas, FreeFrames}
 use Rattle.hp_units.specs.Placement.{free_places, covered}
 use Rattle.hp_tape.specs.Tapes.{NotesAreas, TapeValue}
 use Rattle.hp_buddy.specs.Buddy.{AreApart, BuddyValue, HasBlockMore, MayBeGiven}
-use Rattle.hp_lemmas.proofs.Places.{covered-in, covered-out}
-use Rattle.hp_cpus.specs.Cpus.{frames_of}
-use Rattle.hp_cpus.proofs.Besides.{notes-beside, notes-then}
+use Rattle.hp_units.proofs.Places.{covered-in, covered-out}
+use Rattle.hp_buddy.specs.Cpus.{frames_of}
+use Rattle.hp_buddy.proofs.Besides.{notes-beside, notes-then}
 use Rattle.hp_buddy.proofs.Scripts.{one_done}
 use Rattle.hp_layers.specs.declared.frames.Frames.{Frames}
 use Rattle.hp_layers.specs.Frames.{IsGiven, IsTidy, MayReturn, free_of, places_of}

@@ -23,7 +23,7 @@ use Rattle.hp_plain.specs.Asked.{asked}
 use Rattle.hp_layers.specs.declared.frames.Frames.{Frames}
 use Rattle.hp_layers.specs.declared.layers.Layers.{Layers}
 use Rattle.hp_layers.specs.Frames.{IsGiven, IsTaken, free_of, give_back_bound, given_back, kernel_block_bound}
-use Rattle.hp_kernel.specs.Kernel.{NotesKernel}
+use Rattle.hp_pages.specs.Kernel.{NotesKernel}
 use Rattle.hp_layers.specs.Layers.{ArePlaced, IsAnswered, state_of, view_of}
 use Rattle.hp_layers.proofs.Answers.{frames-one, give_back-few, give_back-is, hands-none, hands-some, noted, notes-then}
 use Rattle.hp_layers.proofs.Lifts.{notes-free, notes-kernel}

@@ -8,7 +8,7 @@ use Rattle.hp_tape.specs.declared.deltas.Delta.{Delta}
 use Rattle.hp_tape.specs.declared.deltas.Delta.TheVariants.{Link, Unlink, Kind as KindDelta, Kernel as KernelDelta, Map as MapDelta, Swap, Word as WordDelta, LargeWord, Filled, Emptied, Row as RowDelta, Auto as AutoDelta}
 use Rattle.hp_tape.specs.Deltas.{AllFit, Fits, FitsBlocks, FitsFree, FitsKernel, FitsPages, FrameView, IsOfBlocks, IsOfFree, IsOfPages, PageFrames, blocks_undo, free_undo, kernel_undo, pages_undo, undo, undo_all}
 use Rattle.hp_tape.specs.Tapes.{Notes, NotesBlocks, NotesFree, NotesPages, TapeValue}
-use Rattle.hp_kernel.specs.Kernel.{IsOfKernel, NotesKernel}
+use Rattle.hp_pages.specs.Kernel.{IsOfKernel, NotesKernel}
 use Rattle.hp_layers.specs.Layers.{IsOfMemory, NotesView}
 
 -- a part of the frame view, and the whole with that part changed

@@ -17,7 +17,7 @@ use Rattle.hp_units.specs.Step.{migrate_step, with_pages}
 use Rattle.hp_units.specs.declared.events.Event.TheVariants.{Migrate}
 use Rattle.hp_units.specs.declared.replies.Refusal.TheVariants.{NoFrame, NoOp, NothingToMove}
 use Rattle.hp_units.specs.declared.replies.Reply.TheVariants.{Moved, Refused}
-use Rattle.hp_lemmas.proofs.Placed.{in_frames}
+use Rattle.hp_units.proofs.Placed.{in_frames}
 use Rattle.hp_tape.specs.declared.deltas.Delta.{Delta}
 use Rattle.hp_tape.specs.Bounds.{give_bound, steal_bound}
 use Rattle.hp_tape.specs.Deltas.{PageFrames, page_frames_of}

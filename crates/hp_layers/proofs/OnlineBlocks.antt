@@ -14,7 +14,7 @@ use Rattle.hp_tape.specs.Bounds.{online_bound}
 use Rattle.hp_tape.specs.Deltas.{FrameView, frame_view_of, page_frames_of}
 use Rattle.hp_tape.specs.Tapes.{NotesBlocks, NotesFree, TapeValue}
 use Rattle.hp_pages.specs.Pages.{PagesValue, pages_of}
-use Rattle.hp_blocks.specs.Blocks.{BlocksValue}
+use Rattle.hp_pages.specs.Blocks.{BlocksValue}
 use Rattle.hp_laws.proofs.Onlines.{quotient}
 use Rattle.hp_layers.specs.declared.frames.Frames.{Frames}
 use Rattle.hp_layers.specs.declared.layers.Layers.{Layers}

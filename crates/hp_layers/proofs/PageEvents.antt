@@ -17,9 +17,9 @@ use Rattle.hp_units.specs.declared.replies.Reply.TheVariants.{Done, Refused, Wor
 use Rattle.hp_tape.specs.declared.deltas.Delta.{Delta}
 use Rattle.hp_tape.specs.Deltas.{FrameView, PageFrames, page_frames_of}
 use Rattle.hp_tape.specs.Tapes.{NotesFree, NotesPages, TapeValue}
-use Rattle.hp_cpus.proofs.Undoes.{take-few}
+use Rattle.hp_buddy.proofs.Undoes.{take-few}
 use Rattle.hp_units.specs.declared.rows.Pool.TheVariants.{Mm as MmPool}
-use Rattle.hp_lemmas.proofs.Lists.{covered-self}
+use Rattle.hp_units.proofs.ListEdits.{covered-self}
 use Rattle.hp_laws.proofs.Fitting.{placed-fits}
 use Rattle.hp_pages.specs.Pages.{AreSettled, PagesValue, map_frame, unmap_frame, words_of, write_frame}
 use Rattle.hp_pages.specs.Places.{holders}

@@ -4,8 +4,8 @@ use Rattle.hp_units.specs.LayoutParts.{LayoutParts}
 use Rattle.hp_units.specs.Arithmetic.{frame_count}
 use Rattle.hp_units.specs.Memory.{kernel_order}
 use Rattle.hp_units.specs.Pages.{frame_at}
-use Rattle.hp_lemmas.proofs.Placed.{IsInUse, kernel-in_use, page-in_use}
-use Rattle.hp_cpus.proofs.Placed.{placed-together}
+use Rattle.hp_units.proofs.Placed.{IsInUse, kernel-in_use, page-in_use}
+use Rattle.hp_buddy.proofs.CpuPlaced.{placed-together}
 use Rattle.hp_layers.specs.declared.layers.Layers.{Layers}
 use Rattle.hp_layers.specs.Frames.{IsTidy, MayReturn}
 use Rattle.hp_layers.specs.Layers.{ArePlaced, state_of}

@@ -10,7 +10,7 @@ use Rattle.hp_units.specs.FreeAreas.{is_on, without}
 use Rattle.hp_units.specs.Isolation.{remove_pageblock}
 use Rattle.hp_units.specs.Memory.{FreeAreas, free_list, isolated_class}
 use Rattle.hp_laws.proofs.Offlined.{on_without-other}
-use Rattle.hp_lemmas.proofs.Lists.{free_list-cases}
+use Rattle.hp_units.proofs.ListEdits.{free_list-cases}
 
 -- the first frame of a pageblock, as it is computed, is one of the layout
 pub first-within : (l k : LayoutParts) (pageblock number order : ℕ) → IsLayout l → k ≡ l

@@ -10,7 +10,7 @@ use Rattle.hp_tape.specs.Bounds.{moved_block_bound, take_one_from}
 use Rattle.hp_tape.specs.Deltas.{FrameView, PageFrames}
 use Rattle.hp_tape.specs.Tapes.{HasRoom, NotesFree, NotesPages, TapeValue}
 use Rattle.hp_layers.specs.Frames.{kernel_block_bound, page_frame_bound}
-use Rattle.hp_kernel.specs.Kernel.{NotesKernel}
+use Rattle.hp_pages.specs.Kernel.{NotesKernel}
 use Rattle.hp_layers.specs.Layers.{NotesView}
 
 -- room for less

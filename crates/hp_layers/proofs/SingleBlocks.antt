@@ -25,7 +25,7 @@ use Rattle.hp_tape.specs.Deltas.{Fits, undo}
 use Rattle.hp_tape.specs.Tapes.{NotesBlocks, TapeValue}
 use Rattle.hp_tape.specs.declared.deltas.Delta.{Delta}
 use Rattle.hp_tape.proofs.Leads.{notes-more}
-use Rattle.hp_blocks.specs.Blocks.{BlocksValue}
+use Rattle.hp_pages.specs.Blocks.{BlocksValue}
 use Rattle.hp_laws.proofs.EventSteps.{below, then_none}
 use Rattle.hp_laws.proofs.OwnedContents.{all_none}
 use Rattle.hp_plain.specs.Asked.{asked}

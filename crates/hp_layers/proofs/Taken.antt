@@ -14,10 +14,10 @@ use Rattle.hp_tape.specs.Tapes.{TapeValue, HasRoom, NotesAreas, NotesFree}
 use Rattle.hp_tape.specs.Deltas.{FitsFree, IsOfFree, free_undo}
 use Rattle.hp_tape.proofs.Leads.{notes-more}
 use Rattle.hp_buddy.specs.Buddy.{BuddyValue, AreApart, MayBeGiven, HasBlockMore}
-use Rattle.hp_cpus.specs.Cpus.{CpusValue, AreTogether, frames_of}
+use Rattle.hp_buddy.specs.Cpus.{CpusValue, AreTogether, frames_of}
 use Rattle.std.proofs.Math.Nat.{mul-le-mul_right}
-use Rattle.hp_cpus.proofs.Besides.{notes-beside, nothing-noted}
-use Rattle.hp_cpus.proofs.Undoes.{take-few}
+use Rattle.hp_buddy.proofs.Besides.{notes-beside, nothing-noted}
+use Rattle.hp_buddy.proofs.Undoes.{take-few}
 use Rattle.hp_layers.specs.declared.frames.Frames.{Frames}
 use Rattle.hp_layers.specs.Frames.{HandsOut, IsTaken, IsTidy, free_of}
 

@@ -2,7 +2,7 @@
 use Rattle.std.specs.Prelude.{ℕ, ◌≡◌, ◌≤◌, Bool, true, false, not, List, [], find, unwrap_or, if◌then◌else◌}
 use Rattle.std.specs.List.{flat_map, list_all}
 use Rattle.hp_units.specs.LayoutParts.{LayoutParts}
-use Rattle.hp_numbers.specs.Numbers.{ancestor}
+use Rattle.hp_units.specs.Numbers.{ancestor}
 use Rattle.hp_units.specs.Arithmetic.{frames_of_block}
 use Rattle.hp_units.specs.Memory.{FreeAreas, Memory, row_of}
 use Rattle.hp_units.specs.Refusals.{is_all_free, is_free_start, is_in_free_block}

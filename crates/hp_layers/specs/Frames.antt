@@ -12,7 +12,7 @@ use Rattle.hp_units.specs.ProcessorLists.{Handed, handed_from, put_one, take_one
 use Rattle.hp_tape.specs.Bounds.{give_bound, put_one_bound, steal_bound, take_one_bound}
 use Rattle.hp_tape.specs.Tapes.{TapeValue, NotesFree}
 use Rattle.hp_units.specs.Placement.{covered}
-use Rattle.hp_cpus.specs.Cpus.{AreTogether, frames_of, places_among}
+use Rattle.hp_buddy.specs.Cpus.{AreTogether, frames_of, places_among}
 use Rattle.hp_layers.specs.declared.frames.Frames.{Frames}
 
 -- the free frames as a part of the state

@@ -15,8 +15,7 @@ ghost use Rattle.hp_layers.specs.Frames.{IsGiven, IsTaken, IsTidy, MayReturn, fr
 mod reads;
 mod removals;
 
-use hp_buddy::Buddy;
-use hp_cpus::Cpus;
+use hp_buddy::{Buddy, Cpus};
 use hp_tape::Tape;
 use hp_units::{
     Block, Class, Cpu, Frame, Layout, Mobility, Order, Pageblock, Pool, Zone, pageblock_of,

@@ -21,9 +21,7 @@ mod steps;
 
 use crate::frames::Frames;
 use crate::parts::{Part, part_of};
-use hp_blocks::Blocks;
-use hp_kernel::KernelBlocks;
-use hp_pages::Pages;
+use hp_pages::{Blocks, KernelBlocks, Pages};
 use hp_tape::{Delta, Tape};
 use hp_units::{Frame, Layout, Zone, block_of};
 use std::alloc::{AllocError, Global};

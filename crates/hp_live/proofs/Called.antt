@@ -1,12 +1,9 @@
 -- An event that was called: its text, and the machine after it.
-use Rattle.std.proofs.Common.{arith, ◌≡◌, ℕ, true, false, List, Some, Ok}
-use Rattle.hp_units.specs.LayoutParts.{LayoutParts}
-use Rattle.hp_units.specs.Memory.{Memory}
+use Rattle.std.proofs.Common.{arith, ◌≡◌, ℕ, true, false, Some, Ok}
 use Rattle.hp_units.specs.declared.events.Event.{Event}
 use Rattle.hp_units.specs.declared.replies.CallFault.{CallFault}
 use Rattle.hp_units.specs.declared.replies.CallFault.TheVariants.{HistoryFull}
 use Rattle.hp_units.specs.declared.replies.Receipt.{Receipt}
-use Rattle.hp_units.specs.declared.replies.Record.{Record}
 use Rattle.hp_units.specs.declared.replies.Reply.{Reply}
 use Rattle.hp_history.specs.Course.{receipt_for}
 use Rattle.hp_machine.specs.Machine.{IsCalled, MachineValue, is_full}
@@ -17,15 +14,7 @@ use Rattle.hp_text.specs.Answers.{reply_line, unrecorded_line}
 use Rattle.hp_live.specs.Answers.{IsEventDone}
 use Rattle.hp_live.specs.declared.answers.Did.TheVariants as did
 
-abbrev machine_with : LayoutParts → ℕ → Memory → List Record → Memory → MachineValue
-machine_with layout before base history state =
-    record { layout = layout; before = before; base = base; history = history; state = state }
-
 -- the machine is the one with the next record
-machine_is : (m new : MachineValue) (cpu : ℕ) (event : Event) (answer : ℕ × Reply)
-    → IsCalled m cpu event (receipt_for event answer) new → new ≡ with_record m (next_record m cpu event)
-machine_is m new cpu event answer called = grind arith
-
 pub machine_of : (m new : MachineValue) (cpu : ℕ) (event : Event) (r : Receipt) → IsCalled m cpu event r new
     → new ≡ with_record m (next_record m cpu event)
 machine_of m new cpu event r called = grind arith
@@ -53,7 +42,7 @@ pub event_recorded : (m new : MachineValue) (cpu : ℕ) (event : Event) (answer 
     → TellsFull {A = ℕ × Reply} (Ok answer) (is_full m) → IsCalled m cpu event (receipt_for event answer) new
     → IsEventDone m cpu event (did.Event answer.0 answer.1) new
 event_recorded m new cpu event answer tells called =
-    grind (arith, called_once, due_with_room, line_is, machine_is)
+    grind (arith, called_once, due_with_room, line_is, machine_of)
 
 unrecorded : (m : MachineValue) (cpu : ℕ) (event : Event) (fault : CallFault) → HasCause (Some fault) m
     → WritesEvent m cpu event (unrecorded_line fault) m

@@ -1,15 +1,15 @@
 -- Rows in the replies of a talk in rows.
-use Rattle.std.proofs.Common.{arith, ◌≡◌, ℕ, ◌+◌, Bool, List, [], ◌∷◌, ◌++◌, Option, Some, None, length, refl, sym, ap, subst, ◌∙◌, append-nil, append_assoc, inl, inr}
+use Rattle.std.proofs.Common.{arith, ◌≡◌, ℕ, ◌+◌, Bool, List, [], ◌∷◌, ◌++◌, Option, Some, None, length, refl, sym, ap, ◌∙◌, append-nil, append_assoc, inl, inr}
 use Rattle.std.proofs.lemmas.List.{length-append}
 use Rattle.std.specs.Prelude.{flat_map, map}
 use Rattle.std.specs.List.{AllByRecursion}
-use Rattle.hp_names.specs.Named.{NamedValue}
-use Rattle.hp_names.specs.Plain.{plain_in}
-use Rattle.hp_names.specs.declared.plain.PlainLine.{PlainLine}
+use Rattle.hp_scripts.specs.Named.{NamedValue}
+use Rattle.hp_scripts.specs.Plain.{plain_in}
+use Rattle.hp_scripts.specs.declared.plain.PlainLine.{PlainLine}
 use Rattle.hp_scenario.specs.Names.{Numbered, line_in}
 use Rattle.hp_scenario.specs.declared.lines.Line.{Line}
-use Rattle.hp_talk.specs.Talks.{AreReplies}
-use Rattle.hp_trace.specs.Lives.{AreRead, LiveValue, LivesOn, LivesThrough, ShowTheTrace, without_text}
+use Rattle.hp_streams.specs.Talks.{AreReplies}
+use Rattle.hp_trace.specs.Lives.{AreRead, LiveValue, LivesThrough, ShowTheTrace, without_text}
 use Rattle.hp_live.specs.Results.{Typed, typed_in, typed_of}
 use Rattle.hp_live.specs.RowTalks.{DrawsTrace, HasRows, RepliesWhole, RowsBegun, RowsRead, RowsSession, RowsText, RowsWord, Stays, cleared}
 use Rattle.hp_live.specs.declared.live_words.LiveWord.{LiveWord}
@@ -39,9 +39,7 @@ through_cleared number (n ∷ came) shown trace last lives = (last, lives)
 quiet : (s next new : RowsSession) (reply rest : List ℕ) → Stays (cleared s) next
     → Draws next.names next.lines next.trace rest new → Draws s.names s.lines s.trace (reply ++ rest) new
 quiet s next new reply rest stays later =
-    let same =
-    subst (λ (t : LiveValue). Draws s.names s.lines t rest new) stays.trace
-    (rw (← stays.lines) (rw (← stays.names) later)) in
+    let same = rw (stays.trace, stays.lines, stays.names) at later in
     let lives =
     through_cleared (length s.lines + 1) same.came
     (flat_map (λ (p : List ℕ × List ℕ). p.1) same.told) s.trace same.last same.lives in record {
@@ -63,9 +61,7 @@ ran : (t : Typed) (s next new : RowsSession) (line reply rest : List ℕ)
 ran t s next new line reply rest is read later =
     let n = t.numbered in
     let keeps = read.keeps in
-    let more =
-    subst (λ (l : List Line). Draws n.names l next.trace rest new) keeps.lines
-    (subst (λ (x : List (List ℕ)). Draws x next.lines next.trace rest new) keeps.names later) in
+    let more = rw (keeps.lines, keeps.names) at later in
     let shown = flat_map (λ (p : List ℕ × List ℕ). p.1) more.told in
     let count : length (s.lines ++ n.line ∷ []) ≡ length s.lines + 1 = length-append s.lines (n.line ∷ []) in
     record {
@@ -80,10 +76,9 @@ ran t s next new line reply rest is read later =
       lives = (
         next.trace,
         shown,
-        subst (λ (k : ℕ). LivesOn n.names k n.line (without_text s.trace) next.trace)
-            (ap (λ (l : List Line). length l) keeps.lines ∙ count) read.lives,
+        rw (keeps.lines, count) at read.lives,
         ap (λ (l : List ℕ). l ++ shown) read.is,
-        subst (λ (k : ℕ). LivesThrough (k + 1) more.came shown next.trace more.last) count more.lives,
+        rw count at more.lives,
       );
     }
 

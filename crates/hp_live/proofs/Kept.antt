@@ -1,5 +1,5 @@
 -- The receipts that a plan's calls leave.
-use Rattle.std.proofs.Common.{arith, ◌≡◌, ℕ, Bool, false, ◌||◌, not, List, [], ◌++◌, Option, Some, refl, sym, ap, subst, ◌∙◌}
+use Rattle.std.proofs.Common.{arith, ◌≡◌, ℕ, Bool, false, ◌||◌, not, List, [], ◌++◌, Option, Some, refl, ap, ◌∙◌}
 use Rattle.hp_units.specs.Driver.{IsDriverRun}
 use Rattle.hp_units.specs.declared.plans.Item.{Item}
 use Rattle.hp_units.specs.declared.replies.CallFault.{CallFault}
@@ -47,12 +47,9 @@ run_with m first last new cpu caller turns plan end fault gained old start kept 
       record {
         receipts = gained;
         fault = fault;
-        calls =
-            subst (λ (k : MachineValue). AreCalls m cpu gained k) (sym at_last)
-            (rw (← same) (subst (λ (k : MachineValue). AreCalls k caller gained last) at_first calls));
-        cause = subst (HasCause fault) (sym at_last) cause;
-        run =
-            subst (λ (k : MachineValue). IsDriverRun k.layout.cpus turns plan gained fault end) at_first ran;
+        calls = rw (at_last, ← same, ← at_first) calls;
+        cause = rw at_last cause;
+        run = rw (← at_first) ran;
       },
       at_kept ∙ keeps ∙ ap (λ (l : List Receipt). l ++ gained) at_start,
     )

@@ -1,5 +1,5 @@
 -- Lines that are run for the numbers of their results run as `serial` runs them.
-use Rattle.std.proofs.Common.{◌≡◌, ◌∙◌, ℕ, ◌+◌, true, false, List, [], ◌∷◌, ◌++◌, Option, Some, None, drop, sym, ap, inl, inr}
+use Rattle.std.proofs.Common.{◌≡◌, ◌∙◌, ℕ, true, false, List, [], ◌∷◌, ◌++◌, Option, Some, None, drop, sym, ap, inl, inr}
 use Rattle.hp_units.specs.Driver.{Ends}
 use Rattle.hp_units.specs.declared.events.Event.{Event}
 use Rattle.hp_units.specs.declared.plans.Item.{Item}
@@ -7,13 +7,11 @@ use Rattle.hp_units.specs.declared.replies.CallFault.{CallFault}
 use Rattle.hp_units.specs.declared.replies.CallFault.TheVariants.{HistoryFull, OutOfMemory}
 use Rattle.hp_units.specs.declared.replies.OpEnd.{OpEnd}
 use Rattle.hp_units.specs.declared.replies.Receipt.{Receipt}
-use Rattle.hp_units.specs.declared.replies.Reply.{Reply}
-use Rattle.hp_machine.specs.Machine.{MachineValue, last_serial}
+use Rattle.hp_machine.specs.Machine.{MachineValue}
 use Rattle.hp_scenario.specs.Asked as asks
 use Rattle.hp_scenario.specs.declared.lines.Line.{Line}
-use Rattle.hp_names.specs.Resolved.{RunsFront, first_source, line_after}
-use Rattle.hp_names.specs.Results.{result_number}
-use Rattle.hp_names.specs.Runs.{RunsAsked, RunsEvent, RunsLine, RunsPlan, is_out_of_memory}
+use Rattle.hp_scripts.specs.Resolved.{RunsFront, first_source, line_after}
+use Rattle.hp_scripts.specs.Runs.{RunsAsked, RunsEvent, RunsLine, RunsPlan, is_out_of_memory}
 use Rattle.hp_commands.specs.Events.{machine_after_event}
 use Rattle.hp_commands.specs.Plans.{PlanRun, plan_run}
 use Rattle.hp_commands.specs.Serial.{machine_after, machine_after_asked, machine_after_lines}
@@ -27,10 +25,7 @@ event_as_serial : (m next : MachineValue) (cpu : ℕ) (e : Event) (number : ℕ)
     → (next ≡ machine_after_event m cpu e) × (number ≡ asked_number m cpu (asks.event e))
 event_as_serial m next cpu e number (inl h) = (h.1 ∙ sym (due_when_full m cpu e h.0).1, rw h.0 h.2)
 event_as_serial m next cpu e number (inr h) =
-    let is = h.3
-    ∙ (ap (λ (n : ℕ). result_number e n h.0.reply) h.2.serial
-    ∙ ap (λ (y : Reply). result_number e (last_serial m + 1) y) h.2.reply) in
-    (machine_of m next cpu e h.0 h.2 ∙ sym (due_with_room m cpu e h.1).1, rw h.1 is)
+    (rw (due_with_room m cpu e h.1).1 (machine_of m next cpu e h.0 h.2), rw (h.1, h.3, h.2.serial, h.2.reply))
 
 -- a run that does not end for want of memory was never short of it
 memory_lasts : (receipts : List Receipt) (next : Option Event) (fault : Option CallFault) (end : OpEnd)
@@ -53,9 +48,7 @@ asked_as_serial : (m next : MachineValue) (cpu : ℕ) (meaning : asks.Meaning) (
 asked_as_serial m next cpu (asks.event e) number h = event_as_serial m next cpu e number h
 asked_as_serial m next cpu (asks.plan items turns) number h =
     (plan_as_serial m next cpu turns items h.0, h.1)
-asked_as_serial m next cpu (asks.not_taken fault) number h = h
-asked_as_serial m next cpu (asks.cat path) number h = h
-asked_as_serial m next cpu asks.seal number h = h
+asked_as_serial m next cpu meaning number h = h
 
 pub line_as_serial : (m : MachineValue) (line : Line) (next : MachineValue) (number : ℕ)
     → RunsLine m line next number → (next ≡ machine_after m line) × (number ≡ line_number m line)

@@ -1,13 +1,13 @@
 -- Replies in rows.
-use Rattle.std.proofs.Common.{◌≡◌, ℕ, List, [], ◌∷◌, ◌++◌, Option, Some, ap, sym, ◌∙◌, inr, length, refl}
+use Rattle.std.proofs.Common.{◌≡◌, ℕ, List, [], ◌∷◌, ◌++◌, Option, Some, inr, length, refl}
 use Rattle.std.specs.Prelude.{option_map}
-use Rattle.hp_names.specs.Bindings.{Bound}
-use Rattle.hp_names.specs.declared.plain.PlainLine.{PlainLine}
+use Rattle.hp_scripts.specs.Bindings.{Bound}
+use Rattle.hp_scripts.specs.declared.plain.PlainLine.{PlainLine}
 use Rattle.hp_scenario.specs.Asked.{asked_by}
 use Rattle.hp_scenario.specs.Names.{Numbered, line_in}
 use Rattle.hp_scenario.specs.declared.lines.Line.{Line}
 use Rattle.hp_trace.specs.Lives.{LiveValue}
-use Rattle.hp_live.specs.Results.{IsKnown, number_left, typed_by, typed_of}
+use Rattle.hp_live.specs.Results.{IsKnown, number_left, typed_by}
 use Rattle.hp_live.specs.RowTalks.{IsLostTyped}
 
 -- the line that a plain text is
@@ -17,11 +17,7 @@ pub typed_is : (names after : List (List ℕ)) (plain : PlainLine) (found : Opti
     ≡ line_in names plain.text
     → typed_by names plain
     ≡ Some (record { numbered = record { names = after; line = line }; naming = plain.naming })
-typed_is names after plain found line at read =
-    ap (typed_of plain) (sym read ∙ ap (option_map {T = Line} {U = Numbered} (λ l. record {
-      names = after;
-      line = l;
-    })) at)
+typed_is names after plain found line at read = rw (← read, at)
 
 -- without memory, a line that was read and is kept
 pub kept_lost : (names after : List (List ℕ)) (lines kept : List Line) (bound noted : Bound)

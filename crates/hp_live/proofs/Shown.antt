@@ -1,5 +1,5 @@
 -- Objects that show how a state changed.
-use Rattle.std.proofs.Common.{◌≡◌, ◌≢◌, ℕ, Bool, true, false, List, [], ◌∷◌, ◌++◌, Option, refl, sym, ap, subst, ◌∙◌, append_assoc, inl, arith, get_or, drop, length}
+use Rattle.std.proofs.Common.{◌≡◌, ◌≢◌, ℕ, Bool, true, false, List, [], ◌∷◌, ◌++◌, Option, refl, ap, append_assoc, inl, arith, get_or, drop, length}
 use Rattle.json.specs.Print.{ends, print, print_from}
 use Rattle.json.specs.Token.{Token, end_object}
 use Rattle.hp_plain.specs.Image.{Pictured}
@@ -25,11 +25,8 @@ pub object_ends : (number : ℕ) (a : AnswerValue) (object : List ℕ) → Write
 object_ends number a object writes =
     let before : List Token = head_of number a.text ++ writes.0 in (
       print before,
-      writes.3
-          ∙ ap (λ (ts : List Token). print ts ++ 10 ∷ [])
-          (sym (append_assoc (head_of number a.text) writes.0 (end_object ∷ [])))
-          ∙ ap (λ (l : List ℕ). l ++ 10 ∷ []) (print_end false before)
-          ∙ append_assoc (print before) (125 ∷ []) (10 ∷ []),
+      rw (writes.3, ← append_assoc (head_of number a.text) writes.0 (end_object ∷ []), print_end false before)
+          (append_assoc (print before) (125 ∷ []) (10 ∷ [])),
     )
 
 -- an answer and a session that stayed as they were, shown in an object
@@ -43,16 +40,13 @@ pub answer_shown : (a b : AnswerValue) (s t : SessionValue) (states u new : Stat
     → ShowsObject (number_of a.did s.lines) a states s.machine reply new
 answer_shown a b s t states u new m object reply shown same stays still is writes shows keeps =
     let end = object_ends (number_of b.did t.lines) b object writes in
-    let one : ShowsObject (number_of b.did t.lines) b u t.machine reply new = record {
+    rw (← same, ← stays, ← still) (record {
       front = end.0;
-      object = subst (λ (l : List ℕ). WritesObject [] (number_of b.did t.lines) b l) end.1 writes;
+      object = rw end.1 at writes;
       shown = shown;
-      shows =
-          subst (λ (x : MachineValue). ShowsIf u.is_shown u.last (picture x) shown end.0 reply) is
-          (shows end.0 end.1);
+      shows = rw (← is) (shows end.0 end.1);
       kept = keeps;
-    } in
-    rw (← same) (rw (← stays) (rw (← still) one))
+    })
 
 -- ---- the object of a change
 

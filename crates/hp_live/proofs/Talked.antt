@@ -1,13 +1,13 @@
 -- Texts in the replies of a talk in objects.
-use Rattle.std.proofs.Common.{arith, ◌≡◌, ℕ, Bool, List, [], ◌∷◌, ◌++◌, Option, refl, ap, subst, ◌∙◌, append-nil, append_assoc, inl, inr}
+use Rattle.std.proofs.Common.{arith, ◌≡◌, ℕ, Bool, List, [], ◌∷◌, ◌++◌, Option, refl, ap, ◌∙◌, append-nil, append_assoc, inl, inr}
 use Rattle.std.specs.Prelude.{◌⊎◌, flat_map}
 use Rattle.std.specs.List.{AllByRecursion}
 use Rattle.hp_plain.specs.Image.{Pictured}
 use Rattle.hp_machine.specs.Machine.{MachineValue}
-use Rattle.hp_names.specs.Named.{NamedValue}
+use Rattle.hp_scripts.specs.Named.{NamedValue}
 use Rattle.hp_commands.specs.Serial.{WritesLines}
 use Rattle.hp_commands.proofs.Lines.{one_more}
-use Rattle.hp_talk.specs.Talks.{AreReplies}
+use Rattle.hp_streams.specs.Talks.{AreReplies}
 use Rattle.hp_trace_json.specs.Changes.{ChangeValue}
 use Rattle.hp_live.specs.Answers.{AnswerValue}
 use Rattle.hp_live.specs.Results.{typed_in}
@@ -16,8 +16,6 @@ use Rattle.hp_live.specs.Talks.{HasKeys, HasText, IsLostLine, IsObjectOf, Object
 use Rattle.hp_live.specs.declared.live_words.LiveWord.{LiveWord}
 use Rattle.hp_live.specs.declared.live_words.LiveWord.TheVariants as word
 use Rattle.hp_live.proofs.Together.{one_answer, resumed_run}
-
--- ---- without memory
 
 -- ---- an object that may show a state
 
@@ -101,8 +99,7 @@ all_replies (line ∷ lines) m s new before text replied ran =
       (reply, one.0) ∷ more.0,
       replied.4 ∙ ap (λ (l : List ℕ). reply ++ l) more.1,
       (one.1, more.2),
-      subst (λ (l : List ℕ). WritesLines m new.session.lines l new.session.machine)
-          (append_assoc before one.0 (flat_map (λ (p : List ℕ × List ℕ). p.1) more.0)) more.3,
+      rw append_assoc at more.3,
     )
 
 pub talks_tell : (scenario : NamedValue) (s new : ObjectsValue) (lines : List (List ℕ)) (text : List ℕ)

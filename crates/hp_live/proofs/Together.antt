@@ -4,9 +4,9 @@ use Rattle.hp_units.specs.LayoutParts.{LayoutParts}
 use Rattle.hp_machine.specs.Machine.{MachineValue, booted}
 use Rattle.hp_scenario.specs.Names.{Numbered, line_in}
 use Rattle.hp_scenario.specs.Scenario.{lines_from, nothing, scenario_in}
-use Rattle.hp_names.specs.Named.{NamedValue}
-use Rattle.hp_names.specs.Plain.{plain_in}
-use Rattle.hp_names.specs.declared.plain.PlainLine.{PlainLine}
+use Rattle.hp_scripts.specs.Named.{NamedValue}
+use Rattle.hp_scripts.specs.Plain.{plain_in}
+use Rattle.hp_scripts.specs.declared.plain.PlainLine.{PlainLine}
 use Rattle.hp_commands.specs.Serial.{WritesLines}
 use Rattle.hp_commands.specs.Served.{IsTextOf}
 use Rattle.hp_commands.proofs.Lines.{one_more}

@@ -1,5 +1,5 @@
 -- Tokens that are appended.
-use Rattle.std.proofs.Common.{arith, ◌≡◌, ℕ, ◌+◌, ◌<◌, List, [], ◌∷◌, ◌++◌, Result, length, get_or, take, refl, sym, ap, subst, ◌∙◌, append_assoc, append-nil}
+use Rattle.std.proofs.Common.{arith, ◌≡◌, ℕ, ◌+◌, ◌<◌, List, [], ◌∷◌, ◌++◌, Result, length, get_or, take, refl, sym, ap, ◌∙◌, append_assoc, append-nil}
 use Rattle.std.specs.Prelude.{OnOk}
 use Rattle.std.proofs.lemmas.List.{take_more}
 use Rattle.std.proofs.lemmas.Result.{on_ok_weaker}
@@ -48,8 +48,6 @@ pub more_calls : (calls : List Receipt) (i : ℕ) (r : Receipt) (a b c : Written
     → (told : List Token) × TellsCalls (take (i + 1) calls) told × Adds a c told
 more_calls calls i r a b c lt so_far is_at one = (
   so_far.0 ++ call_object r one.0,
-  subst (λ (l : List Receipt). TellsCalls l (so_far.0 ++ call_object r one.0))
-      (sym (take_more calls i r lt ∙ ap (λ (x : Receipt). take i calls ++ x ∷ []) (sym is_at)))
-      (call_last (take i calls) r so_far.0 one.0 so_far.1),
+  rw (take_more calls i r lt, ← is_at) (call_last (take i calls) r so_far.0 one.0 so_far.1),
   adds_more a b c so_far.0 (call_object r one.0) so_far.2 one.1,
 )

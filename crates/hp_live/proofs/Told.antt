@@ -1,6 +1,6 @@
 -- Answers to what a line asks for.
-use Rattle.std.proofs.Common.{arith, ◌≡◌, ℕ, List, [], ◌∷◌, ◌++◌, Option, Some, None, Result, refl, sym, ap, subst, ◌∙◌, inl, inr}
-use Rattle.std.specs.Prelude.{◌⊎◌, length, option_map, OnErr, OnOk}
+use Rattle.std.proofs.Common.{arith, ◌≡◌, ℕ, List, [], ◌∷◌, ◌++◌, Option, Some, None, Result, refl, ap, inl, inr}
+use Rattle.std.specs.Prelude.{◌⊎◌, length, option_map, OnErr}
 use Rattle.hp_units.specs.declared.events.Event.{Event}
 use Rattle.hp_units.specs.declared.plans.Item.{Item}
 use Rattle.hp_units.specs.declared.replies.OpEnd.{OpEnd}
@@ -14,17 +14,18 @@ use Rattle.hp_scenario.specs.declared.lines.Line.{Line}
 use Rattle.hp_text.specs.Files.{write_fault_line}
 use Rattle.hp_text.specs.Plans.{plan_line}
 use Rattle.hp_commands.specs.Files.{cat_text}
-use Rattle.hp_names.specs.Bindings.{Bound, bound_after}
-use Rattle.hp_names.specs.declared.bindings.Naming.{Naming}
-use Rattle.hp_names.specs.declared.plain.PlainLine.{PlainLine}
+use Rattle.hp_scripts.specs.Bindings.{Bound, bound_after}
+use Rattle.hp_scripts.specs.declared.bindings.Naming.{Naming}
+use Rattle.hp_scripts.specs.declared.plain.PlainLine.{PlainLine}
 use Rattle.hp_live.specs.Answers.{AnswerValue, Answers, IsDone, IsEventDone, IsPlanTold, did_text}
-use Rattle.hp_live.specs.Results.{IsKnown, Typed, number_asked, typed_by, typed_in, typed_of}
+use Rattle.hp_live.specs.Results.{IsKnown, Typed, number_asked, typed_by, typed_in}
 use Rattle.hp_live.specs.Sessions.{AnswersRead, AnswersText, IsLostTyped, RunsLine, SessionValue}
-use Rattle.hp_live.specs.Talks.{IsLostLine, IsLostText, StatesValue}
+use Rattle.hp_live.specs.Talks.{IsLostText, StatesValue}
 use Rattle.hp_live.specs.declared.answers.Did.{Did}
 use Rattle.hp_live.specs.declared.answers.Did.TheVariants as did
 use Rattle.hp_live.specs.declared.session.Lack.{Lack}
 use Rattle.hp_live.specs.declared.session.Lack.TheVariants as lack
+use Rattle.hp_live.proofs.Rowed.{typed_is}
 
 pub plan_answered : (m new : MachineValue) (cpu turns : ℕ) (plan : List Item) (a : AnswerValue)
     → IsPlanTold m cpu turns plan a new → Answers m cpu (asks.plan plan turns) a new
@@ -38,8 +39,7 @@ on_err r p = grind arith
 
 pub event_done : (m new : MachineValue) (cpu : ℕ) (event : Event) (d said : Did) → said ≡ d
     → IsEventDone m cpu event d new → IsDone m cpu (asks.event event) said new
-event_done m new cpu event d said same done =
-    subst (λ (x : Did). IsDone m cpu (asks.event event) x new) (sym same) (did_text d, done.0, done.1)
+event_done m new cpu event d said same done = rw same (did_text d, done.0, done.1)
 
 pub plan_done : (m new : MachineValue) (cpu turns : ℕ) (plan : List Item) (d : Did)
     → (end : OpEnd) × IsPlanRun m cpu turns plan end new → IsDone m cpu (asks.plan plan turns) d new
@@ -61,50 +61,9 @@ seal_done m new cpu d goes = (did_text (did.Sealed (length m.history)), (refl, g
 pub answer_done : (m new : MachineValue) (cpu : ℕ) (meaning : asks.Meaning) (a : AnswerValue)
     → Answers m cpu meaning a new → IsDone m cpu meaning a.did new
 answer_done m new cpu (asks.event event) a answered = (a.text, answered.0, answered.1.1)
-answer_done m new cpu (asks.plan items turns) a answered = (a.text, answered.0, tt)
-answer_done m new cpu (asks.not_taken fault) a answered = (a.text, answered.0, tt)
-answer_done m new cpu (asks.cat path) a answered = (a.text, answered.0, tt)
-answer_done m new cpu asks.seal a answered = (a.text, answered.0, tt)
-
--- with memory for the answer or without
-pub either_done : {E : Type 0} (r : Result Unit E) (m new : MachineValue) (cpu : ℕ) (meaning : asks.Meaning)
-    (a : AnswerValue)
-    → OnOk r (Answers m cpu meaning a new) → OnErr r (IsDone m cpu meaning a.did new)
-    → IsDone m cpu meaning a.did new
-either_done r m new cpu meaning a ok err = grind (arith, answer_done)
+answer_done m new cpu meaning a answered = (a.text, answered.0, tt)
 
 -- ---- a line that was run and is kept, but not answered
-
-lost_answer : (names after : List (List ℕ)) (lines kept : List Line) (bound noted : Bound)
-    (m new : MachineValue) (plain : PlainLine) (found : Option Line) (line : Line) (d : Did) (number : ℕ)
-    → IsDone m line.cpu (asked_by line.work) d new → number ≡ number_asked (asked_by line.work) d
-    → found ≡ Some line
-    → option_map {T = Line} {U = Numbered} (λ l. record { names = after; line = l }) found
-    ≡ line_in names plain.text
-    → kept ≡ lines ++ line ∷ [] → IsKnown bound plain.naming (length lines) number noted
-    → IsLostTyped lack.Answer (record { names = names; lines = lines; bound = bound; machine = m })
-    (typed_by names plain)
-    (record { names = after; lines = kept; bound = noted; machine = new })
-lost_answer names after lines kept bound noted m new plain found line d number done is at read keeps known =
-    let n : Numbered = record { names = after; line = line } in
-    let t : Typed = record { numbered = n; naming = plain.naming } in
-    let typed : typed_by names plain ≡ Some t =
-    ap (typed_of plain) (sym read ∙ ap (option_map {T = Line} {U = Numbered} (λ l. record {
-      names = after;
-      line = l;
-    })) at) in (
-      t,
-      done.0,
-      typed,
-      record {
-        did = d;
-        done = done;
-        ran = done.1;
-        names = refl;
-        lines = keeps;
-        bound = subst (λ (k : ℕ). IsKnown bound plain.naming (length lines) k noted) is known;
-      },
-    )
 
 pub lost_line : (given : Lack) (names after : List (List ℕ)) (lines kept : List Line) (bound noted : Bound)
     (m new : MachineValue) (plain : PlainLine) (found : Option Line) (line : Line) (d : Did) (number : ℕ)
@@ -119,11 +78,12 @@ pub lost_line : (given : Lack) (names after : List (List ℕ)) (lines kept : Lis
     (record { names = after; lines = kept; bound = noted; machine = new })
 lost_line given names after lines kept bound noted m new plain found line d number same done is at read keeps
     known =
-    subst (λ (k : Lack). IsLostTyped k (record { names = names; lines = lines; bound = bound; machine = m })
-    (typed_by names plain)
-    (record { names = after; lines = kept; bound = noted; machine = new })) (sym same)
-    (lost_answer names after lines kept bound noted m new plain found line d number done is at read keeps
-    known)
+    rw same (
+      record { numbered = record { names = after; line = line }; naming = plain.naming },
+      done.0,
+      typed_is names after plain found line at read,
+      record { did = d; done = done; ran = done.1; names = refl; lines = keeps; bound = rw (← is) known },
+    )
 
 -- ---- a line that was answered, but whose reply was lost
 
@@ -158,7 +118,6 @@ pub shown_lost : (s new shown : SessionValue) (states after : StatesValue) (text
     → IsLostText (record { session = s; states = states }) text
     (record { session = shown; states = after })
 shown_lost s new shown states after text a answered same stay = (
-  subst (λ (x : SessionValue). IsLostLine s text x) (sym same)
-      (answered_run (typed_in s.names s.bound text) s new a answered),
+  rw same (answered_run (typed_in s.names s.bound text) s new a answered),
   stay,
 )

@@ -6,11 +6,11 @@ use Rattle.hp_units.specs.declared.events.Event.{Event}
 use Rattle.hp_units.specs.declared.replies.Reply.{Reply}
 use Rattle.hp_machine.specs.Machine.{MachineValue, is_full}
 use Rattle.hp_commands.specs.Events.{next_record}
-use Rattle.hp_names.specs.Bindings.{Bound, bound_to}
-use Rattle.hp_names.specs.Plain.{plain_in}
-use Rattle.hp_names.specs.Results.{missing_number, result_number}
-use Rattle.hp_names.specs.declared.bindings.Naming.{Naming}
-use Rattle.hp_names.specs.declared.plain.PlainLine.{PlainLine}
+use Rattle.hp_scripts.specs.Bindings.{Bound, bound_to}
+use Rattle.hp_scripts.specs.Plain.{plain_in}
+use Rattle.hp_scripts.specs.Results.{missing_number, result_number}
+use Rattle.hp_scripts.specs.declared.bindings.Naming.{Naming}
+use Rattle.hp_scripts.specs.declared.plain.PlainLine.{PlainLine}
 use Rattle.hp_scenario.specs.Asked as asks
 use Rattle.hp_scenario.specs.Names.{Numbered, line_in}
 use Rattle.hp_scenario.specs.declared.lines.Line.{Line}

@@ -1,9 +1,9 @@
 -- The reply to a line of a talk, in rows.
 use Rattle.std.specs.Prelude.{◌≡◌, ◌+◌, ◌-◌, ◌^◌, ◌⊎◌, ℕ, Bool, List, [], ◌∷◌, ◌++◌, codes, flat_map, length, Option, Some, None}
 use Rattle.std.specs.List.{AllByRecursion}
-use Rattle.hp_names.specs.Bindings.{Bound, bound_after}
-use Rattle.hp_names.specs.Named.{NamedValue}
-use Rattle.hp_names.specs.Resolved.{Resolves}
+use Rattle.hp_scripts.specs.Bindings.{Bound, bound_after}
+use Rattle.hp_scripts.specs.Named.{NamedValue}
+use Rattle.hp_scripts.specs.Resolved.{Resolves}
 use Rattle.hp_scenario.specs.Asked.{asked_by}
 use Rattle.hp_scenario.specs.Scenario.{ScenarioValue}
 use Rattle.hp_scenario.specs.declared.lines.Line.{Line}

@@ -3,10 +3,10 @@ use Rattle.std.specs.Prelude.{◌≡◌, ℕ, ◌-◌, ◌^◌, List, [], ◌∷
 use Rattle.hp_units.specs.LayoutParts.{LayoutParts}
 use Rattle.hp_machine.specs.Machine.{MachineValue, booted}
 use Rattle.hp_scenario.specs.Asked.{asked_by}
-use Rattle.hp_names.specs.Bindings.{Bound, bound_after}
-use Rattle.hp_names.specs.Named.{NamedValue}
-use Rattle.hp_names.specs.Plain.{plain_in}
-use Rattle.hp_names.specs.Resolved.{Resolves}
+use Rattle.hp_scripts.specs.Bindings.{Bound, bound_after}
+use Rattle.hp_scripts.specs.Named.{NamedValue}
+use Rattle.hp_scripts.specs.Plain.{plain_in}
+use Rattle.hp_scripts.specs.Resolved.{Resolves}
 use Rattle.hp_scenario.specs.Scenario.{Script}
 use Rattle.hp_scenario.specs.declared.lines.Line.{Line}
 use Rattle.hp_commands.specs.Serial.{WritesLine, WritesLines}

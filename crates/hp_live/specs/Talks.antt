@@ -11,7 +11,7 @@ use Rattle.hp_scenario.specs.declared.lines.Line.{Line}
 use Rattle.hp_text.specs.Scenarios.{scenario_text}
 use Rattle.hp_text.specs.State.{state_text}
 use Rattle.hp_commands.specs.Serial.{WritesLines}
-use Rattle.hp_talk.specs.Talks.{line_limit}
+use Rattle.hp_streams.specs.Talks.{line_limit}
 use Rattle.hp_trace_json.specs.ChangeObjects.{IsChangeObject, no_change}
 use Rattle.hp_trace_json.specs.Changes.{ChangeValue, IsChange}
 use Rattle.hp_live.specs.Answers.{AnswerValue}

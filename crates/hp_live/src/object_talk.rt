@@ -1,9 +1,9 @@
 //! A session that replies in objects of JSON.
 ghost use Rattle.std.specs.Prelude.{◌≡◌, ◌<◌, ◌+◌, ◌++◌, List, ℕ, [], IfOk, None, OnErr, OnOk, codes, length};
-ghost use Rattle.hp_names.specs.Seen.{named_seen};
+ghost use Rattle.hp_scripts.specs.Seen.{named_seen};
 ghost use Rattle.hp_text.specs.Scenarios.{scenario_text};
 ghost use Rattle.hp_text.specs.State.{state_text};
-ghost use Rattle.hp_talk.specs.Talks.{RepliesTo, line_limit};
+ghost use Rattle.hp_streams.specs.Talks.{RepliesTo, line_limit};
 ghost use Rattle.hp_live.specs.Objects.{WritesObject};
 ghost use Rattle.hp_live.specs.ObjectTalks.{objects};
 ghost use Rattle.hp_live.specs.Sessions.{IsResumed};
@@ -18,8 +18,8 @@ use crate::states::ShownStates;
 use crate::word_objects::{write_fault, write_word};
 use crate::words::help;
 use hp_check::{name_typo, write_expected};
-use hp_names::NamedScenario;
-use hp_talk::Talk;
+use hp_scripts::NamedScenario;
+use hp_streams::Talk;
 use std::alloc::{AllocError, Global};
 use std::str;
 

@@ -1,13 +1,13 @@
 //! The names of results in a session.
 ghost use Rattle.std.specs.Prelude.{◌≡◌, true};
-ghost use Rattle.hp_names.specs.Bindings.{bound_after};
+ghost use Rattle.hp_scripts.specs.Bindings.{bound_after};
 ghost use Rattle.hp_scenario.specs.Asked.{asked_by};
 ghost use Rattle.hp_live.specs.Results as spec;
 ghost use Rattle.hp_live.specs.Results.{IsKnown};
 
 use hp_machine::Machine;
-use hp_names::{Bindings, Naming, missing_number, result_number};
 use hp_scenario::{Asked, Work};
+use hp_scripts::{Bindings, Naming, missing_number, result_number};
 use hp_units::{Event, Reply, Serial};
 
 /// What became of a line that was run.

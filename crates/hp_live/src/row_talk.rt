@@ -1,11 +1,11 @@
 //! A machine that replies in rows, as `hotplug_lab trace` draws them.
 ghost use Rattle.std.specs.Prelude.{◌≡◌, ◌<◌, ◌+◌, ◌++◌, List, ℕ, [], ◌∷◌, IfOk, OnErr, OnOk, length, string_bytes, true, vec_capacity, vec_len};
-ghost use Rattle.hp_names.specs.Seen.{named_seen};
+ghost use Rattle.hp_scripts.specs.Seen.{named_seen};
 ghost use Rattle.hp_scenario.specs.Asked.{asked_by};
 ghost use Rattle.hp_scenario.specs.Seen.{scenario_seen};
 ghost use Rattle.hp_text.specs.Scenarios.{scenario_text};
 ghost use Rattle.hp_text.specs.State.{state_text};
-ghost use Rattle.hp_talk.specs.Talks.{RepliesTo, line_limit};
+ghost use Rattle.hp_streams.specs.Talks.{RepliesTo, line_limit};
 ghost use Rattle.hp_trace.specs.Lives.{LivesOn, without_text};
 ghost use Rattle.hp_live.specs.Results.{number_left, typed_by, typed_in};
 ghost use Rattle.hp_live.specs.RowTalks.{IsLostRow, IsLostTyped, RowsBegun, RowsText, RowsRead, RowsWord, Stays, cleared, later_view};
@@ -15,9 +15,9 @@ use crate::live_words::{LiveWord, word_of};
 use crate::results::{Ran, left_in, note, number_of};
 use crate::words::help;
 use hp_check::{name_typo, write_expected};
-use hp_names::{Bindings, NamedScenario, PlainLine, plain_line, resolve_front};
 use hp_scenario::{Line, Scenario, read_line};
-use hp_talk::Talk;
+use hp_scripts::{Bindings, NamedScenario, PlainLine, plain_line, resolve_front};
+use hp_streams::Talk;
 use hp_text::{write_scenario, write_state};
 use hp_trace::{LiveTrace, View};
 use hp_units::Text;

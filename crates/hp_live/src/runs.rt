@@ -8,10 +8,9 @@ ghost use Rattle.hp_live.specs.Answers.{Answers, IsDone, IsEventDone, IsFileTold
 
 use crate::answers::{Did, LiveAnswer};
 use crate::plans::drive;
-use hp_control::text_in;
 use hp_machine::UnrecordedMachine;
 use hp_scenario::{Asked, Line};
-use hp_text::write_read_fault;
+use hp_text::{text_in, write_read_fault};
 use hp_units::{CallFault, Cpu, Event, OpEnd, Plan};
 use std::alloc::{AllocError, Global};
 

@@ -3,7 +3,7 @@ ghost use Rattle.std.specs.Prelude.{◌≡◌, ◌≢◌, ◌<◌, ◌+◌, List
 ghost use Rattle.hp_scenario.specs.Asked.{asked_by};
 ghost use Rattle.hp_live.specs.Answers.{Answers, IsDone, untold};
 ghost use Rattle.hp_live.specs.Results.{number_asked, typed_by};
-ghost use Rattle.hp_names.specs.Seen.{named_seen};
+ghost use Rattle.hp_scripts.specs.Seen.{named_seen};
 ghost use Rattle.hp_commands.specs.Serial.{WritesLines};
 ghost use Rattle.hp_live.specs.Sessions.{AnswersRead, AnswersText, IsLost, IsLostTyped, IsResumed, started};
 
@@ -11,8 +11,8 @@ use crate::answers::LiveAnswer;
 use crate::results::{Ran, note, number_of};
 use crate::runs::answer_line;
 use hp_machine::UnrecordedMachine;
-use hp_names::{Bindings, NamedScenario, PlainLine, plain_line, resolve_front};
 use hp_scenario::{Line, Scenario, read_line};
+use hp_scripts::{Bindings, NamedScenario, PlainLine, plain_line, resolve_front};
 use hp_units::{Layout, Text};
 use indexmap::IndexSet;
 use std::alloc::{AllocError, Global};

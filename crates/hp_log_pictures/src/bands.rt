@@ -4,7 +4,7 @@ ghost use Rattle.std.specs.Prelude.{◌<◌};
 use crate::columns::Columns;
 use crate::marks::BlockSigns;
 use hp_judge::LogEvent;
-use hp_numbers::Block;
+use hp_units::Block;
 use hp_verdicts::JudgedLog;
 use std::alloc::{AllocError, Global};
 

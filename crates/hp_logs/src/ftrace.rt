@@ -2,8 +2,7 @@
 
 use crate::faults::LineFault;
 use hp_judge::LogEvent;
-use hp_numbers::{Block, Frame, Order};
-use hp_units::Zone;
+use hp_units::{Block, Frame, Order, Zone};
 use memchr::memchr;
 
 /// The beginning of the comment with which Linux counts the events in its buffers and those that it

@@ -2,8 +2,7 @@
 
 use crate::faults::LineFault;
 use hp_judge::LogEvent;
-use hp_numbers::{Block, Frame, Order};
-use hp_units::Zone;
+use hp_units::{Block, Frame, Order, Zone};
 use json::{MAX_DEPTH, Reader, Scratch, Token};
 
 /// An object in which no key comes twice has at most this many keys.

@@ -4,3 +4,6 @@ pub mod MachinePorts
 pub mod Names
 pub mod Operations
 pub mod Volumes
+pub mod Chains
+pub mod Replaying
+pub mod SameLayouts

@@ -15,12 +15,10 @@ ghost use Rattle.hp_machine.specs.Operations.{KeepsOperations};
 ghost use Rattle.hp_machine.specs.Volumes.{KeepsOperationsAcrossSeals};
 
 use crate::machine_port::{CallMachine, carry_out};
-use hp_blocks::Blocks;
-use hp_buddy::Buddy;
-use hp_cpus::Cpus;
+use hp_buddy::{Buddy, Cpus};
 use hp_history::{Course, Volume};
 use hp_memory::Memory;
-use hp_pages::Pages;
+use hp_pages::{Blocks, Pages};
 use hp_plain::Image;
 use hp_tape::Delta;
 use hp_units::{

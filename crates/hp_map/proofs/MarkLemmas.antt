@@ -6,7 +6,7 @@ use Rattle.std.proofs.lemmas.List.Folds.{list_any-append}
 use Rattle.std.proofs.lemmas.Option.{slice_get-get_or, slice_get_past}
 use Rattle.hp_units.specs.FreeAreas.{is_on}
 use Rattle.hp_map.specs.declared.places.Place.{Place}
-use Rattle.hp_lemmas.proofs.Tables.{get_set}
+use Rattle.hp_units.proofs.Tables.{get_set}
 use Rattle.hp_map.specs.Marks.{AreMarked, Mark, at_frame, marks_below, on_list}
 
 -- what changes nothing, and one thing after another

@@ -16,9 +16,9 @@ use Rattle.hp_map.specs.declared.places.Place.TheVariants.{Free, Isolated, Kerne
 use Rattle.hp_map.specs.Marks.{AreMarked, Mark, at_frame, marks_below, on_cpu, on_kernel, on_owner, on_unused, free_in, unused_at, unused_in, unused_place}
 use Rattle.hp_map.specs.Places.{ArePlacesOf, IsPlaceOf}
 use Rattle.hp_laws.proofs.States.{block_of-pageblock}
-use Rattle.hp_lemmas.proofs.Geometry.{pageblock_in}
-use Rattle.hp_lemmas.proofs.Placed.{kernel-in_use}
-use Rattle.hp_lemmas.proofs.Tables.{entry_within, table_of}
+use Rattle.hp_units.proofs.Geometry.{pageblock_in}
+use Rattle.hp_units.proofs.Placed.{kernel-in_use}
+use Rattle.hp_units.proofs.Tables.{entry_within, table_of}
 use Rattle.hp_map.proofs.Walks.{Has, walk}
 use Rattle.hp_map.proofs.PlaceLemmas.{cached_none, mapped_none, kernel_none, IsNot, at_has, IsCachedBy, IsNotCachedBy, cpu_has, holds_is, IsPageOf, IsNoPageOf, owner_has, IsKernelFrom, IsNotKernelFrom, kernel_has}
 

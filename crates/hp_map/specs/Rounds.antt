@@ -3,7 +3,7 @@ use Rattle.std.specs.Prelude.{ℕ, zero, suc, ◌≡◌, ◌+◌, ◌*◌, ◌-�
 use Rattle.std.specs.Option.{option_and_then, option_to_list}
 use Rattle.std.specs.Fmt.{decimal}
 use Rattle.std.specs.List.{after_first, before_first, flat_map, list_all, position_or_len, starts_with}
-use Rattle.hp_numbers.specs.NumberWords.{number_of}
+use Rattle.hp_units.specs.NumberWords.{number_of}
 use Rattle.hp_map.specs.BlockPictures.{BlockValue}
 use Rattle.hp_map.specs.Rows.{RowValue, row_with}
 

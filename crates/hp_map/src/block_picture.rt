@@ -3,7 +3,7 @@ ghost use Rattle.std.specs.Prelude.{◌≡◌, ◌↔◌, IsTrue};
 ghost use Rattle.hp_map.specs.BlockPictures.{block_with, is_same};
 
 use crate::counts::{write_counts, write_order_counts};
-use hp_numbers::Text;
+use hp_units::Text;
 use std::alloc::AllocError;
 use std::marker::Model;
 

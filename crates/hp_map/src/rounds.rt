@@ -6,7 +6,7 @@ ghost use Rattle.hp_map.specs.Rounds.{IsOneMore, begins_round, continues_round, 
 
 use crate::block_picture::BlockPicture;
 use crate::row_picture::RowPicture;
-use hp_numbers::number64;
+use hp_units::number64;
 use std::alloc::{AllocError, Global};
 use std::marker::Model;
 

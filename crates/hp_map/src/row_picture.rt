@@ -3,7 +3,7 @@ ghost use Rattle.std.specs.Prelude.{◌≡◌, ◌↔◌, IsTrue, None};
 ghost use Rattle.hp_map.specs.Rows.{row_with};
 
 use crate::block_picture::{BlockPicture, are_equal, is_text};
-use hp_numbers::{Frame, Text};
+use hp_units::{Frame, Text};
 use std::marker::Model;
 
 /// A page that moved: in which frame it was, and in which it is.

@@ -1,4 +1,10 @@
 mod Loaded
 mod Pictured
-pub mod Steps
+pub mod MemorySteps
 mod Values
+mod FilledLists
+pub mod Conversions
+mod Lists
+mod Pages
+pub mod Tables
+mod Made

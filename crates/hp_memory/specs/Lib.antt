@@ -1,1 +1,3 @@
 pub mod Memory
+pub mod Tables
+pub mod Steps

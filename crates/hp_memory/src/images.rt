@@ -4,7 +4,7 @@ ghost use Rattle.hp_units.specs.LayoutParts.{IsLayout};
 ghost use Rattle.hp_units.specs.Placement.{IsWellPlaced};
 ghost use Rattle.hp_layers.specs.Layers.{ArePlaced, state_of};
 
-use hp_images::{
+use crate::{
     blocks_of, buddy_of, cpus_of, kernel_of, pages_of, put_areas, put_blocks, put_cpus, put_kernel,
     put_pages,
 };

@@ -1,6 +1,6 @@
 -- Drivers with equal keys ask for the same events.
-use Rattle.std.proofs.Common.{◌≡◌, ℕ, zero, suc, ◌+◌, List, Option, Some, None, refl, ap, sym, ◌∙◌, arith}
-use Rattle.hp_ops.specs.Names.{Item, Event, Begin, DrainFor, Migrate, Commit, Cancel, Driver, Stage, Begins, DrainsFor, Migrates, Commits, Cancels, Ended}
+use Rattle.std.proofs.Common.{◌≡◌, ℕ, zero, suc, List, Option, Some, None, ap, arith}
+use Rattle.hp_ops.specs.Names.{Item, Event, Begin, DrainFor, Migrate, Commit, Cancel, Driver, Stage}
 use Rattle.hp_ops.specs.Stages.{event_in, key_of, stage_number, stage_op}
 use Rattle.hp_ops.specs.declared.stages.DriverKey.{DriverKey}
 
@@ -14,14 +14,7 @@ event_at plan (suc (suc (suc (suc zero)))) op = None
 event_at plan (suc (suc (suc (suc (suc cpu))))) op = Some (DrainFor op cpu)
 
 event_by : (plan : List Item) (s : Stage) → event_in plan s ≡ event_at plan (stage_number s) (stage_op s)
-event_by plan Begins = refl
-event_by plan (Migrates op) = refl
-event_by plan (Commits op) = refl
-event_by plan (Cancels op) = refl
-event_by plan (Ended end) = refl
-event_by plan (DrainsFor op cpu) =
-    let from_five : suc (suc (suc (suc (suc cpu)))) ≡ 5 + cpu = omega arith in
-    ap (λ (n : ℕ). event_at plan n op) from_five
+event_by plan s = grind arith
 
 -- drivers with equal keys have as many migrations left, and ask for the same event
 pub same_left : (a b : Driver) → key_of a ≡ key_of b → a.left ≡ b.left
@@ -29,6 +22,4 @@ same_left a b same = ap (λ (k : DriverKey). k.left) same
 
 pub same_event : (a b : Driver) (plan : List Item) → key_of a ≡ key_of b
     → event_in plan a.stage ≡ event_in plan b.stage
-same_event a b plan same =
-    event_by plan a.stage
-    ∙ (ap (λ (k : DriverKey). event_at plan k.stage k.op) same ∙ sym (event_by plan b.stage))
+same_event a b plan same = grind (arith, event_by)

@@ -1,12 +1,11 @@
 -- One receipt more of a driver's run, and its value then.
-use Rattle.std.proofs.Common.{◌≡◌, ℕ, ◌+◌, ◌-◌, ◌<◌, ◌≤◌, Bool, true, false, cond, List, [], ◌∷◌, ◌++◌, Option, Some, None, refl, ap, sym, subst, ◌∙◌, append_assoc, append-nil, arith}
+use Rattle.std.proofs.Common.{◌≡◌, ℕ, ◌+◌, ◌-◌, Bool, cond, List, [], ◌∷◌, ◌++◌, Option, Some, None, refl, ap, sym, subst, ◌∙◌, append_assoc, append-nil, arith}
 use Rattle.std.specs.Prelude.{nat_lt}
 use Rattle.std.specs.List.{last_or}
-use Rattle.std.specs.Option.{option_map_or, option_and_then}
 use Rattle.std.proofs.lemmas.Bool.{lt-ltb, le-ltb, ltb-true, ltb-false}
 use Rattle.std.proofs.lemmas.List.Sums.{fold-append, sum_by-append, sum_by-cons}
 use Rattle.hp_units.specs.Driver.{AllNext, cause_after, cause_of, end_after, end_of, is_migrate, next_after, next_event, tried}
-use Rattle.hp_ops.specs.Names.{Item, Event, Begin, Reply, Refusal, Receipt, Driver}
+use Rattle.hp_ops.specs.Names.{Item, Event, Reply, Receipt, Driver}
 use Rattle.hp_ops.specs.Stages.{EndsAs, Follows, MovesOn}
 
 -- ---- one receipt more
@@ -20,8 +19,7 @@ last_push o (y ∷ ys) x = last_push (Some y) ys x
 pub all_push : (cpus turns : ℕ) (plan : List Item) (earlier rs : List Receipt) (r : Receipt)
     → AllNext cpus turns plan earlier rs → next_event cpus turns plan (earlier ++ rs) ≡ Some r.event
     → AllNext cpus turns plan earlier (rs ++ r ∷ [])
-all_push cpus turns plan earlier [] r h e =
-    (subst (λ (xs : List Receipt). next_event cpus turns plan xs ≡ Some r.event) (append-nil earlier) e, tt)
+all_push cpus turns plan earlier [] r h e = grind (arith, append-nil)
 all_push cpus turns plan earlier (x ∷ rs) r h e = (
   h.0,
   all_push cpus turns plan (earlier ++ x ∷ []) rs r h.1 (subst (λ (xs : List Receipt).
@@ -31,43 +29,27 @@ all_push cpus turns plan earlier (x ∷ rs) r h e = (
 -- what is next after one receipt more
 pub next_push : (cpus turns : ℕ) (plan : List Item) (rs : List Receipt) (r : Receipt)
     → next_event cpus turns plan (rs ++ r ∷ []) ≡ next_after cpus turns (rs ++ r ∷ []) r.event r.reply
-next_push cpus turns plan rs r =
-    ap (λ (o : Option Receipt). option_map_or (λ x. next_after cpus turns (rs ++ r ∷ []) x.event x.reply) o
-    (Some (Begin plan))) (last_push None rs r)
+next_push cpus turns plan rs r = rw (last_push None rs r)
 
 -- the last refusal, the number of migrations and the operation after one receipt more
 cause_push : (rs : List Receipt) (r : Receipt)
     → cause_of (rs ++ r ∷ []) ≡ cause_after (cause_of rs) r.event r.reply
-cause_push rs r =
-    fold-append (λ (cause : Option Refusal) (x : Receipt). cause_after cause x.event x.reply) None rs (r ∷ [])
+cause_push rs r = grind (arith, fold-append)
 
 pub count_push : (rs : List Receipt) (r : Receipt)
     → tried (rs ++ r ∷ []) ≡ tried rs + cond (is_migrate r.event) 1 0
-count_push rs r =
-    omega (
-      arith,
-      sum_by-append (λ (x : Receipt). cond (is_migrate x.event) 1 0) rs (r ∷ []),
-      sum_by-cons (λ (x : Receipt). cond (is_migrate x.event) 1 0) r [],
-    )
+count_push rs r = grind (arith, sum_by-append, sum_by-cons)
 
 -- the end after one receipt more
 pub end_push : (rs : List Receipt) (r : Receipt)
     → end_of (rs ++ r ∷ []) ≡ end_after (cause_after (cause_of rs) r.event r.reply) r.event r.reply
-end_push rs r =
-    ap (λ (o : Option Receipt). option_and_then (λ x. end_after (cause_of (rs ++ r ∷ [])) x.event x.reply) o)
-    (last_push None rs r)
-    ∙ ap (λ (w : Option Refusal). end_after w r.event r.reply) (cause_push rs r)
+end_push rs r = rw (last_push None rs r, cause_push rs r)
 
 -- ---- the driver's value moves on
 
 -- whether a migration is left
 pub left_is : (n turns left : ℕ) → left ≡ turns - n → (b : Bool) → nat_lt n turns ≡ b → b ≡ nat_lt 0 left
-left_is n turns left is true h =
-    let below : n < turns = ltb-true n turns h in
-    sym (lt-ltb 0 left (omega (arith, below, is)))
-left_is n turns left is false h =
-    let above : turns ≤ n = ltb-false n turns h in
-    sym (le-ltb 0 left (omega (arith, above, is)))
+left_is n turns left is b h = grind (arith, ltb-true, lt-ltb, ltb-false, le-ltb)
 
 -- one receipt more
 pub moved_on : (old new : Driver) (event : Event) (reply : Reply) → new.cpus ≡ old.cpus
@@ -76,18 +58,8 @@ pub moved_on : (old new : Driver) (event : Event) (reply : Reply) → new.cpus �
     → MovesOn old event reply new
 moved_on old new event reply same fewer why follows finishes cpus turns earlier r asked replied at =
     let rs = earlier ++ r ∷ [] in
-    let left : new.left ≡ turns - tried rs =
-    omega (
-      arith,
-      fewer,
-      at.left,
-      count_push earlier r,
-      ap {B = ℕ} (λ (e : Event). cond (is_migrate e) 1 0) asked,
-    ) in
-    let cause : new.why ≡ cause_of rs =
-    why ∙ (ap (λ (w : Option Refusal). cause_after w event reply) at.why
-    ∙ sym (cause_push earlier r ∙ (ap (λ (e : Event). cause_after (cause_of earlier) e r.reply) asked
-    ∙ ap (λ (y : Reply). cause_after (cause_of earlier) event y) replied))) in
+    let left : new.left ≡ turns - tried rs = grind (arith, count_push) in
+    let cause : new.why ≡ cause_of rs = cc (at.why, cause_push earlier r) in
     record {
       processors = same ∙ at.processors;
       left = left;
@@ -98,10 +70,5 @@ moved_on old new event reply same fewer why follows finishes cpus turns earlier 
           ∙ sym (next_push cpus turns plan earlier r
           ∙ (ap (λ (e : Event). next_after cpus turns rs e r.reply) asked
           ∙ ap (λ (y : Reply). next_after cpus turns rs event y) replied)));
-      end =
-          finishes
-          ∙ sym (end_push earlier r ∙ (ap (λ (w : Option Refusal). end_after w r.event r.reply)
-          (sym (cause_push earlier r) ∙ sym cause)
-          ∙ (ap (λ (e : Event). end_after new.why e r.reply) asked
-          ∙ ap (λ (y : Reply). end_after new.why event y) replied)));
+      end = grind (arith, end_push, cause_push);
     }

@@ -1,12 +1,11 @@
 -- Steps of a driver's run, and its ends.
 use Rattle.std.proofs.Common.{◌⊎◌, one-mul, ◌≡◌, ℕ, ◌+◌, ◌*◌, ◌-◌, ◌<◌, Bool, true, false, cond, if◌then◌else◌, List, [], ◌∷◌, ◌++◌, Option, Some, None, refl, ap, sym, subst, ◌∙◌, arith, inl, inr}
-use Rattle.std.specs.Prelude.{nat_lt, ◌||◌}
+use Rattle.std.specs.Prelude.{nat_lt}
 use Rattle.std.specs.List.{last_or}
-use Rattle.std.specs.Option.{option_map_or}
 use Rattle.std.proofs.lemmas.Bool.{le-ltb, ltb-true}
 use Rattle.std.proofs.Math.Nat.{add-mul}
-use Rattle.hp_units.specs.Driver.{AllNext, Ends, IsDriverRun, cause_after, cause_of, end_after, is_migrate, next_after, next_event, next_drain, migrate_or_cancel, opened_by, operation_of, tried}
-use Rattle.hp_ops.specs.Names.{Item, Event, Begin, DrainFor, Migrate, Commit, Cancel, Reply, Done, Moved, Opened, Refused, Refusal, NoFrame, NoOp, NothingToMove, NotFree, Receipt, OpEnd, EndsDone, EndsRefused, EndsCancelled, EndsUndone, EndsLeft, CallFault, Driver, Stage, Begins, DrainsFor, Migrates, Commits, Cancels, Ended}
+use Rattle.hp_units.specs.Driver.{AllNext, IsDriverRun, cause_after, cause_of, end_after, is_migrate, next_after, next_event, next_drain, migrate_or_cancel, opened_by, operation_of, tried}
+use Rattle.hp_ops.specs.Names.{Item, Event, Begin, DrainFor, Migrate, Commit, Cancel, Reply, Done, Moved, Opened, Refused, Refusal, NoFrame, NoOp, NothingToMove, NotFree, Receipt, OpEnd, EndsRefused, EndsCancelled, EndsUndone, EndsLeft, CallFault, Driver, Stage, Begins, Ended}
 use Rattle.hp_ops.specs.Ports.{IsBeginReply, IsDriverReply, IsGiven, IsLiveReply, PortValue, has_opened, is_opened, with_receipts}
 use Rattle.hp_ops.specs.Stages.{IsAfter, MovesOn, end_in, event_in, operation_in, work_in}
 use Rattle.hp_ops.proofs.Receipts.{all_push, next_push, count_push, end_push}
@@ -63,49 +62,25 @@ record IsInRound (cpus turns : ℕ) (rs : List Receipt) (op cpu : ℕ) (next : E
 round_if : (cpus turns : ℕ) (rs : List Receipt) (op cpu : ℕ) (b d : Bool) → nat_lt cpu cpus ≡ b
     → nat_lt (tried rs) turns ≡ d
     → IsInRound cpus turns rs op cpu (if b then DrainFor op cpu else (if d then Migrate op else Cancel op))
-round_if cpus turns rs op cpu true d h k =
-    let below : cpu < cpus = ltb-true cpu cpus h in
-    record { sound = below; operation = refl; within = omega (arith, below) }
-round_if cpus turns rs op cpu false true h k =
-    record { sound = ltb-true (tried rs) turns k; operation = refl; within = omega arith }
-round_if cpus turns rs op cpu false false h k =
-    record { sound = tt; operation = refl; within = omega arith }
+round_if cpus turns rs op cpu b d h k = grind (arith, ltb-true)
 
 in_round : (cpus turns : ℕ) (rs : List Receipt) (op cpu : ℕ) (next : Event)
     → Some (next_drain cpus turns op cpu rs) ≡ Some next → IsInRound cpus turns rs op cpu next
-in_round cpus turns rs op cpu next is =
-    let same : next_drain cpus turns op cpu rs ≡ next = cc in
-    subst (IsInRound cpus turns rs op cpu) same (round_if cpus turns rs op cpu _ _ refl refl)
+in_round cpus turns rs op cpu next is = grind (arith, round_if)
 
 -- a turn is a round with no processor left
 in_turn : (cpus turns : ℕ) (rs : List Receipt) (op : ℕ) (next : Event)
     → Some (migrate_or_cancel turns op rs) ≡ Some next → IsInRound cpus turns rs op cpus next
-in_turn cpus turns rs op next is =
-    let same : migrate_or_cancel turns op rs ≡ next = cc in
-    subst (IsInRound cpus turns rs op cpus) same (round_if cpus turns rs op cpus false _
-    (le-ltb cpus cpus (omega arith)) refl)
+in_turn cpus turns rs op next is = grind (arith, round_if, le-ltb)
 
 is_next : (cpus turns : ℕ) (rs : List Receipt) (event : Event) (reply : Reply) (next : Event)
     → next_after cpus turns rs event reply ≡ Some next → IsNext cpus turns rs event reply next
-is_next cpus turns rs (Begin plan) (Opened op) next is =
-    let r = in_round cpus turns rs op 0 next is in
-    record { sound = r.sound; operation = sym r.operation; fewer = omega (arith, r.within) }
-is_next cpus turns rs (DrainFor op cpu) Done next is =
-    let r = in_round cpus turns rs op (cpu + 1) next is in
-    record { sound = r.sound; operation = sym r.operation; fewer = omega (arith, r.within) }
-is_next cpus turns rs (Migrate op) (Moved from to) next is =
-    let r = in_turn cpus turns rs op next is in
-    record { sound = r.sound; operation = sym r.operation; fewer = omega (arith, r.within) }
-is_next cpus turns rs (Migrate op) (Refused NoFrame) next is =
-    let r = in_round cpus turns rs op 0 next is in
-    record { sound = r.sound; operation = sym r.operation; fewer = omega (arith, r.within) }
-is_next cpus turns rs (Migrate op) (Refused NothingToMove) next is =
-    let same : Commit op ≡ next = cc in
-    subst (IsNext cpus turns rs (Migrate op) (Refused NothingToMove)) same
-    (record { sound = tt; operation = refl; fewer = omega arith })
-is_next cpus turns rs (Commit op) (Refused (NotFree frame)) next is =
-    let r = in_round cpus turns rs op 0 next is in
-    record { sound = r.sound; operation = sym r.operation; fewer = omega (arith, r.within) }
+is_next cpus turns rs (Begin plan) (Opened op) next is = grind (arith, in_round)
+is_next cpus turns rs (DrainFor op cpu) Done next is = grind (arith, in_round)
+is_next cpus turns rs (Migrate op) (Moved from to) next is = grind (arith, in_turn)
+is_next cpus turns rs (Migrate op) (Refused NoFrame) next is = grind (arith, in_round)
+is_next cpus turns rs (Migrate op) (Refused NothingToMove) next is = grind arith
+is_next cpus turns rs (Commit op) (Refused (NotFree frame)) next is = grind (arith, in_round)
 is_next cpus turns rs event reply next is = absurd cc
 
 -- ---- after the receipts so far
@@ -123,26 +98,18 @@ sound_at : (cpus turns : ℕ) (plan : List Item) (rs : List Receipt) (event : Ev
 sound_at cpus turns plan [] event is = inl (refl, cc)
 sound_at cpus turns plan (x ∷ xs) event is =
     let l = last_some x xs in
-    let here : next_after cpus turns (x ∷ xs) l.0.event l.0.reply ≡ Some event =
-    sym (ap (λ (o : Option Receipt).
-    option_map_or (λ r. next_after cpus turns (x ∷ xs) r.event r.reply) o (Some (Begin plan))) l.1) ∙ is in
+    let here : next_after cpus turns (x ∷ xs) l.0.event l.0.reply ≡ Some event = cc in
     inr (is_next cpus turns (x ∷ xs) l.0.event l.0.reply event here).sound
 
 -- the operation stays once it is opened
 operation_same : (cpus turns : ℕ) (rs : List Receipt) (event : Event) (reply : Reply)
     → IsSound cpus turns rs event → operation_after event reply ≡ operation_in event
-operation_same cpus turns rs (DrainFor op cpu) reply sound = refl
-operation_same cpus turns rs (Migrate op) reply sound = refl
-operation_same cpus turns rs (Commit op) reply sound = refl
-operation_same cpus turns rs (Cancel op) reply sound = refl
-operation_same cpus turns rs event reply sound = absurd sound
+operation_same cpus turns rs event reply sound = grind arith
 
 operation_on : (cpus turns : ℕ) (plan : List Item) (rs : List Receipt) (r : Receipt)
     → next_event cpus turns plan rs ≡ Some r.event → operation_of rs ≡ operation_in r.event
     → operation_of (rs ++ r ∷ []) ≡ operation_after r.event r.reply
-operation_on cpus turns plan [] r is same =
-    let begins : Begin plan ≡ r.event = cc in
-    ap (λ (e : Event). operation_after e r.reply) begins
+operation_on cpus turns plan [] r is same = cc
 operation_on cpus turns plan (x ∷ xs) r is same =
     elim (sound_at cpus turns plan (x ∷ xs) r.event is) [
       | inl none ↦ absurd (let no : x ∷ xs ≡ [] = none.0 in cc)
@@ -152,12 +119,7 @@ operation_on cpus turns plan (x ∷ xs) r is same =
 -- the event of a stage
 event_work : (plan : List Item) (stage : Stage) (event : Event) → work_in stage ≡ Some event
     → event_in plan stage ≡ Some event
-event_work plan Begins event is = absurd cc
-event_work plan (DrainsFor op cpu) event is = is
-event_work plan (Migrates op) event is = is
-event_work plan (Commits op) event is = is
-event_work plan (Cancels op) event is = is
-event_work plan (Ended end) event is = is
+event_work plan stage event is = grind arith
 
 no_work : (cpus turns : ℕ) (plan : List Item) (rs : List Receipt) (r : Receipt) (stage : Stage)
     → work_in stage ≡ None → event_in plan stage ≡ next_event cpus turns plan (rs ++ r ∷ [])
@@ -171,11 +133,8 @@ no_work cpus turns plan rs r Begins none is =
     not_empty : (xs : List Receipt) (x : Receipt) → xs ++ x ∷ [] ≡ [] → ⊥
     not_empty [] x h = cc
     not_empty (y ∷ ys) x h = cc
-no_work cpus turns plan rs r (DrainsFor op cpu) none is = absurd cc
-no_work cpus turns plan rs r (Migrates op) none is = absurd cc
-no_work cpus turns plan rs r (Commits op) none is = absurd cc
-no_work cpus turns plan rs r (Cancels op) none is = absurd cc
 no_work cpus turns plan rs r (Ended end) none is = sym is
+no_work cpus turns plan rs r _ none is = absurd cc
 
 pub goes_on : (cpus turns : ℕ) (plan : List Item) (d new : Driver) (event next : Event) (reply : Reply)
     (rs : List Receipt) (r : Receipt)
@@ -183,8 +142,7 @@ pub goes_on : (cpus turns : ℕ) (plan : List Item) (d new : Driver) (event next
     → work_in new.stage ≡ Some next → IsUnderWay cpus turns plan new next (rs ++ r ∷ [])
 goes_on cpus turns plan d new event next reply rs r at asked replied moves works =
     let after : IsAfter cpus turns (rs ++ r ∷ []) new = moves cpus turns rs r asked replied at.after in
-    let is : next_event cpus turns plan (rs ++ r ∷ []) ≡ Some next =
-    sym (after.next plan) ∙ event_work plan new.stage next works in
+    let is : next_event cpus turns plan (rs ++ r ∷ []) ≡ Some next = grind (arith, event_work) in
     let here : next_event cpus turns plan rs ≡ Some r.event = at.next_is ∙ ap Some (sym asked) in
     record {
       events = all_push cpus turns plan [] rs r at.events here;
@@ -200,32 +158,19 @@ goes_on cpus turns plan d new event next reply rs r at asked replied moves works
 
 less : (b : Bool) (old new k x y : ℕ) → old ≡ new + cond b 1 0 → y < x + cond b k 0
     → new * k + y < old * k + x
-less true old new k x y is h =
-    let more : old * k ≡ new * k + k =
-    ap (λ (n : ℕ). n * k) is ∙ (add-mul new 1 k ∙ ap (λ (n : ℕ). new * k + n) (one-mul k)) in
-    omega (arith, more, h)
-less false old new k x y is h =
-    let same : old ≡ new = omega (arith, is) in
-    let both : old * k ≡ new * k = ap (λ (n : ℕ). n * k) same in
-    omega (arith, both, h)
+less b old new k x y is h = grind (arith, add-mul, one-mul)
 
 tries : (b : Bool) (turns n m left fewer : ℕ) → left ≡ turns - n → fewer ≡ turns - m → m ≡ n + cond b 1 0
     → (b ≡ true → n < turns) → left ≡ fewer + cond b 1 0
-tries true turns n m left fewer h k more below =
-    let under : n < turns = below refl in
-    omega (arith, h, k, more, under)
-tries false turns n m left fewer h k more below = omega (arith, h, k, more)
+tries b turns n m left fewer h k more below = grind arith
 
 migrates_sound : (cpus turns : ℕ) (rs : List Receipt) (event : Event) → IsSound cpus turns rs event
     → is_migrate event ≡ true → tried rs < turns
-migrates_sound cpus turns rs (Migrate op) sound is = sound
-migrates_sound cpus turns rs event sound is = absurd cc
+migrates_sound cpus turns rs event sound is = grind arith
 
 migrates : (cpus turns : ℕ) (plan : List Item) (rs : List Receipt) (event : Event)
     → IsBegun cpus turns plan rs event → is_migrate event ≡ true → tried rs < turns
-migrates cpus turns plan rs event (inl begun) is =
-    absurd (let no : false ≡ true = sym (ap is_migrate begun.1) ∙ is in cc)
-migrates cpus turns plan rs event (inr sound) is = migrates_sound cpus turns rs event sound is
+migrates cpus turns plan rs event begun is = grind (arith, migrates_sound)
 
 pub fewer_left : (cpus turns : ℕ) (plan : List Item) (d new : Driver) (event next : Event) (reply : Reply)
     (rs : List Receipt) (r : Receipt)
@@ -233,22 +178,14 @@ pub fewer_left : (cpus turns : ℕ) (plan : List Item) (d new : Driver) (event n
     → work_in new.stage ≡ Some next → calls_left new next < calls_left d event
 fewer_left cpus turns plan d new event next reply rs r at asked replied moves works =
     let on = goes_on cpus turns plan d new event next reply rs r at asked replied moves works in
-    let here : next_after cpus turns (rs ++ r ∷ []) event r.reply ≡ Some next =
-    sym (ap (λ (e : Event). next_after cpus turns (rs ++ r ∷ []) e r.reply) asked)
-    ∙ (sym (next_push cpus turns plan rs r) ∙ on.next_is) in
-    let step = is_next cpus turns (rs ++ r ∷ []) event r.reply next here in
+    let here : next_after cpus turns (rs ++ r ∷ []) event r.reply ≡ Some next = grind (arith, next_push) in
     let left : d.left ≡ new.left + cond (is_migrate event) 1 0 =
     tries (is_migrate event) turns (tried rs) (tried (rs ++ r ∷ [])) d.left new.left at.after.left
     on.after.left (count_push rs r ∙ ap (λ (e : Event). tried rs + cond (is_migrate e) 1 0) asked)
     (migrates cpus turns plan rs event (sound_at cpus turns plan rs event at.next_is)) in
-    let all : new.left * (cpus + 3) + calls_to_turn cpus next
-    < d.left * (cpus + 3) + calls_to_turn cpus event =
-    less (is_migrate event) d.left new.left (cpus + 3) (calls_to_turn cpus event) (calls_to_turn cpus next)
-    left step.fewer in
-    subst (λ (n : ℕ). new.left * (n + 3) + calls_to_turn n next < calls_left d event)
-    (sym on.after.processors)
-    (subst (λ (n : ℕ). new.left * (cpus + 3) + calls_to_turn cpus next
-    < d.left * (n + 3) + calls_to_turn n event) (sym at.after.processors) all)
+    let all : new.left * (cpus + 3) + calls_to_turn cpus next < d.left * (cpus + 3) + calls_to_turn cpus event
+    = less _ _ _ _ _ _ left (is_next cpus turns (rs ++ r ∷ []) event r.reply next here).fewer in
+    grind arith
 
 -- ---- the end: the replies that the next event can have
 abbrev IsKnown : (cpus : ℕ) → List Item → Event → Reply → Type 0
@@ -257,20 +194,14 @@ IsKnown cpus plan event reply =
     × ((op : ℕ) → operation_in event ≡ Some op → IsDriverReply cpus event reply)
 
 opened_is : (reply : Reply) (op : ℕ) → opened_by reply ≡ Some op → is_opened reply ≡ true
-opened_is (Opened op) same is = refl
-opened_is reply same is = absurd cc
+opened_is reply same is = grind arith
 
 opened_first : (rs : List Receipt) (op : ℕ) → operation_of rs ≡ Some op → has_opened rs ≡ true
-opened_first [] op is = absurd cc
-opened_first (x ∷ xs) op is = ap (λ (b : Bool). b || has_opened xs) (opened_is x.reply op is)
+opened_first rs op is = grind (arith, opened_is)
 
 opened_later : (xs ys : List Receipt) → has_opened ys ≡ true → has_opened (xs ++ ys) ≡ true
 opened_later [] ys is = is
-opened_later (x ∷ xs) ys is = or_true (is_opened x.reply) (has_opened (xs ++ ys)) (opened_later xs ys is)
-  where
-    or_true : (a b : Bool) → b ≡ true → (a || b) ≡ true
-    or_true true b h = refl
-    or_true false b h = h
+opened_later (x ∷ xs) ys is = grind (arith, opened_later xs ys is)
 
 pub known_by : (old here after : PortValue) (turns : ℕ) (plan : List Item) (d : Driver) (event : Event)
     (rs : List Receipt) (r : Receipt)
@@ -287,8 +218,7 @@ known_by old here after turns plan d event rs r value at given = (
 not_last : (cpus turns : ℕ) (rs : List Receipt) (event : Event) (reply same : Reply) (next : Event)
     → reply ≡ same → next_after cpus turns rs event same ≡ Some next
     → next_after cpus turns rs event reply ≡ None → ⊥
-not_last cpus turns rs event reply same next is goes none =
-    let no : Some next ≡ None = sym goes ∙ (sym (ap (next_after cpus turns rs event) is) ∙ none) in cc
+not_last cpus turns rs event reply same next is goes none = cc
 
 -- an answer after which nothing is next makes an end
 abbrev HasEnd : Option Refusal → Event → Reply → Type 0
@@ -297,34 +227,23 @@ HasEnd why event reply = (end : OpEnd) × (end_after why event reply ≡ Some en
 begin_ends : (cpus turns : ℕ) (rs : List Receipt) (plan : List Item) (why : Option Refusal) (reply : Reply)
     → IsBeginReply reply → next_after cpus turns rs (Begin plan) reply ≡ None
     → HasEnd why (Begin plan) reply
-begin_ends cpus turns rs plan why reply (inl open_) none =
-    absurd (not_last cpus turns rs (Begin plan) reply (Opened open_.0) _ open_.1 refl none)
+begin_ends cpus turns rs plan why reply (inl open_) none = grind (arith, not_last)
 begin_ends cpus turns rs plan why reply (inr refused) none =
     (EndsRefused refused.0, ap (end_after why (Begin plan)) refused.1)
 
 undone : (why : Option Refusal) (event : Event) (cpus turns : ℕ) (rs : List Receipt)
     → IsSound cpus turns rs event → end_after why event (Refused NoOp) ≡ Some EndsUndone
-undone why (DrainFor op cpu) cpus turns rs sound = refl
-undone why (Migrate op) cpus turns rs sound = refl
-undone why (Commit op) cpus turns rs sound = refl
-undone why (Cancel op) cpus turns rs sound = refl
-undone why event cpus turns rs sound = absurd sound
+undone why event cpus turns rs sound = grind arith
 
 live_ends : (cpus turns : ℕ) (earlier rs : List Receipt) (why : Option Refusal) (event : Event)
     (reply : Reply) → IsSound cpus turns earlier event → IsLiveReply cpus event reply
     → next_after cpus turns rs event reply ≡ None → HasEnd why event reply
-live_ends cpus turns earlier rs why (DrainFor op cpu) reply sound live none =
-    absurd (not_last cpus turns rs (DrainFor op cpu) reply Done _ (live sound) refl none)
-live_ends cpus turns earlier rs why (Migrate op) reply sound (inl moved) none =
-    absurd (not_last cpus turns rs (Migrate op) reply (Moved moved.0 moved.1) _ moved.2 refl none)
-live_ends cpus turns earlier rs why (Migrate op) reply sound (inr (inl full)) none =
-    absurd (not_last cpus turns rs (Migrate op) reply (Refused NoFrame) _ full refl none)
-live_ends cpus turns earlier rs why (Migrate op) reply sound (inr (inr empty)) none =
-    absurd (not_last cpus turns rs (Migrate op) reply (Refused NothingToMove) _ empty refl none)
-live_ends cpus turns earlier rs why (Commit op) reply sound (inl done) none =
-    (EndsDone, ap (end_after why (Commit op)) done)
-live_ends cpus turns earlier rs why (Commit op) reply sound (inr found) none =
-    absurd (not_last cpus turns rs (Commit op) reply (Refused (NotFree found.0)) _ found.1 refl none)
+live_ends cpus turns earlier rs why (DrainFor op cpu) reply sound live none = grind (arith, not_last)
+live_ends cpus turns earlier rs why (Migrate op) reply sound (inl moved) none = grind (arith, not_last)
+live_ends cpus turns earlier rs why (Migrate op) reply sound (inr (inl full)) none = grind (arith, not_last)
+live_ends cpus turns earlier rs why (Migrate op) reply sound (inr (inr empty)) none = grind (arith, not_last)
+live_ends cpus turns earlier rs why (Commit op) reply sound (inl done) none = grind arith
+live_ends cpus turns earlier rs why (Commit op) reply sound (inr found) none = grind (arith, not_last)
 live_ends cpus turns earlier rs why (Cancel op) reply sound (inl restored) none =
     (EndsCancelled why true, ap (end_after why (Cancel op)) restored)
 live_ends cpus turns earlier rs why (Cancel op) reply sound (inr released) none =
@@ -343,8 +262,7 @@ has_end : (cpus turns : ℕ) (plan : List Item) (earlier rs : List Receipt) (why
     (event : Event) (reply : Reply) → IsBegun cpus turns plan earlier event → IsKnown cpus plan event reply
     → next_after cpus turns rs event reply ≡ None → HasEnd why event reply
 has_end cpus turns plan earlier rs why event reply (inl begun) known none =
-    let same : next_after cpus turns rs (Begin plan) reply ≡ None =
-    sym (ap (λ (e : Event). next_after cpus turns rs e reply) begun.1) ∙ none in
+    let same : next_after cpus turns rs (Begin plan) reply ≡ None = cc in
     let end = begin_ends cpus turns rs plan why reply (known.0 begun.1) same in
     (end.0, ap (λ (e : Event). end_after why e reply) begun.1 ∙ end.1)
 has_end cpus turns plan earlier rs why event reply (inr sound) known none =
@@ -362,9 +280,7 @@ pub ends : (cpus turns : ℕ) (plan : List Item) (d new : Driver) (event : Event
 ends cpus turns plan d new event reply rs r at asked replied moves known none =
     let after : IsAfter cpus turns (rs ++ r ∷ []) new = moves cpus turns rs r asked replied at.after in
     let last = no_work cpus turns plan rs r new.stage none (after.next plan) in
-    let here : next_after cpus turns (rs ++ r ∷ []) event r.reply ≡ None =
-    sym (ap (λ (e : Event). next_after cpus turns (rs ++ r ∷ []) e r.reply) asked)
-    ∙ (sym (next_push cpus turns plan rs r) ∙ last) in
+    let here : next_after cpus turns (rs ++ r ∷ []) event r.reply ≡ None = grind (arith, next_push) in
     let made =
     has_end cpus turns plan rs (rs ++ r ∷ []) (cause_after (cause_of rs) r.event r.reply) event r.reply
     (sound_at cpus turns plan rs event at.next_is) known here in (
@@ -380,20 +296,10 @@ pub over : (cpus turns : ℕ) (plan : List Item) (d new : Driver) (event : Event
     → IsDriverRun cpus turns plan (rs ++ r ∷ []) None end
 over cpus turns plan d new event reply end rs r at asked replied moves none is =
     let after : IsAfter cpus turns (rs ++ r ∷ []) new = moves cpus turns rs r asked replied at.after in
-    let last = no_work cpus turns plan rs r new.stage none (after.next plan) in
-    record {
-      events = all_push cpus turns plan [] rs r at.events (at.next_is ∙ ap Some (sym asked));
-      ends =
-          subst (λ (o : Option Event). Ends (rs ++ r ∷ []) o None end) (sym last) (sym after.end ∙ is);
-    }
+    grind (arith, no_work, all_push)
 
 -- the next call left a fault
 pub broken_off : (cpus turns : ℕ) (plan : List Item) (d : Driver) (event : Event) (op : Option ℕ)
     (fault : CallFault) (rs : List Receipt) → IsUnderWay cpus turns plan d event rs → op ≡ operation_in event
     → IsDriverRun cpus turns plan rs (Some fault) (EndsLeft op fault)
-broken_off cpus turns plan d event op fault rs at named = record {
-  events = at.events;
-  ends =
-      subst (λ (o : Option Event). Ends rs o (Some fault) (EndsLeft op fault)) (sym at.next_is)
-      (ap (λ (o : Option ℕ). EndsLeft o fault) (named ∙ sym at.operation));
-}
+broken_off cpus turns plan d event op fault rs at named = grind (arith, ends)

@@ -27,9 +27,7 @@ clear_bit word at i is_in lt within e = elim (cases_eq i at) [
 
 -- a bit of a shifted word
 bit_up : (n k i : ℕ) → k ≤ i → bit_at n i ≡ bit_at (n / 2 ^ k) (i - k)
-bit_up n k i le =
-    let e : i ≡ k + (i - k) = omega arith in
-    ap (λ j. n / 2 ^ j % 2) e ∙ sym (ap (λ m. m % 2) (shr-shr n k (i - k)))
+bit_up n k i le = ap (λ j. n / 2 ^ j % 2) (omega arith) ∙ sym (ap (λ m. m % 2) (shr-shr n k (i - k)))
 
 -- a shifted word with no bit
 pub no_bit : (word from : ℕ) → word / 2 ^ from ≡ 0 → FindsLowest (λ i. eqb (bit_at word i) 1) from 64 None
@@ -47,8 +45,7 @@ pub first_bit : (word from : ℕ) → word < 2 ^ 64 → 0 < word / 2 ^ from
 first_bit word from fits some =
     let rest = word / 2 ^ from in
     let zeros = trailing_zeros w64 rest in
-    let small : rest < 2 ^ 64 = omega (arith, shr_le word from, fits) in
-    let lowest = bit_at-trailing_zeros w64 rest some small in
+    let lowest = bit_at-trailing_zeros w64 rest some (omega (arith, shr_le word from, fits)) in
     let one : bit_at word (from + zeros) ≡ 1 =
     bit_up word from (from + zeros) (omega arith)
     ∙ ap (bit_at rest) (let e : from + zeros - from ≡ zeros = omega arith in e) ∙ lowest.1 in
@@ -69,86 +66,46 @@ pub none_in_word : (words : List ℕ) (first at : ℕ)
     → ((n : ℕ) → first ≤ n → n < at → has words n ≡ false)
     → FindsLowest (λ i. eqb (bit_at (get_or words (at / 64) 0) i) 1) (at % 64) 64 None
     → (n : ℕ) → first ≤ n → n < at / 64 * 64 + 64 → has words n ≡ false
-none_in_word words first at before none n low high = elim (cases_lt n at) [
-  | inl less ↦ before n low less
-  | inr more ↦
-      let same = same_word at n more high in
-      rw same.0 (none (n % 64) same.1 same.2)
-]
+none_in_word words first at before none n low high = grind (arith, cases_lt, same_word)
 
 -- nor have words that are 0
 pub none_in_words : (words : List ℕ) (first at past : ℕ)
     → ((n : ℕ) → first ≤ n → n < at / 64 * 64 + 64 → has words n ≡ false)
     → ((k : ℕ) → at / 64 + 1 ≤ k → k < past → get_or words k 0 ≡ 0)
     → (n : ℕ) → first ≤ n → n < past * 64 → has words n ≡ false
-none_in_words words first at past before empty n low high = elim (cases_lt n (at / 64 * 64 + 64)) [
-  | inl less ↦ before n low less
-  | inr more ↦ rw (empty (n / 64) (omega arith) (omega arith), bit_at-zero (n % 64))
-]
+none_in_words words first at past before empty n low high = grind (arith, cases_lt, bit_at-zero)
 
 -- no frame of the word is below its lowest
 found_below : (words : List ℕ) (first at bit : ℕ)
     → ((n : ℕ) → first ≤ n → n < at → has words n ≡ false)
     → IsLowest (λ i. eqb (bit_at (get_or words (at / 64) 0) i) 1) (at % 64) 64 bit
     → (n : ℕ) → first ≤ n → n < at / 64 * 64 + bit → has words n ≡ false
-found_below words first at bit before lowest n low high = elim (cases_lt n at) [
-  | inl less ↦ before n low less
-  | inr more ↦
-      let same = same_word at n more (omega (arith, lowest.high)) in
-      rw same.0 (lowest.below (n % 64) same.1 (omega arith))
-]
+found_below words first at bit before lowest n low high = grind (arith, cases_lt, same_word)
 
 -- a word's lowest frame at or after one
 pub found_in_word : (words : List ℕ) (first at bit : ℕ) → first ≤ at
     → ((n : ℕ) → first ≤ n → n < at → has words n ≡ false)
     → IsLowest (λ i. eqb (bit_at (get_or words (at / 64) 0) i) 1) (at % 64) 64 bit
     → (past : ℕ) → at / 64 * 64 + bit < past → IsLowest (has words) first past (at / 64 * 64 + bit)
-found_in_word words first at bit from before lowest past within = record {
-  low = omega (arith, lowest.low);
-  high = within;
-  passes =
-      rw (div-mul-add (at / 64) 64 bit lowest.high, mod-mul-add (at / 64) 64 bit lowest.high) lowest.passes;
-  below = found_below words first at bit before lowest;
-}
+found_in_word words first at bit from before lowest past within =
+    grind (arith, div-mul-add, mod-mul-add, found_below)
 
 -- ---- the lowest number of a range
 
 -- the same for another test with the same results
 pub finds_same : (p q : ℕ → Bool) (first past : ℕ) (found : Option ℕ) → ((n : ℕ) → n < past → p n ≡ q n)
     → FindsLowest p first past found → FindsLowest q first past found
-finds_same p q first past None same none = λ n low high. sym (same n high) ∙ none n low high
-finds_same p q first past (Some found) same lowest = record {
-  low = lowest.low;
-  high = lowest.high;
-  passes = sym (same found lowest.high) ∙ lowest.passes;
-  below = λ n low high. sym (same n (omega (arith, lowest.high))) ∙ lowest.below n low high;
-}
+finds_same p q first past found same lowest = grind arith
 
 -- the search from the next number on
 next_lowest : (p : ℕ → Bool) (first count : ℕ) (found : Option ℕ) → p first ≡ false
     → FindsLowest p first (first + suc count) found → FindsLowest p (first + 1) (first + 1 + count) found
-next_lowest p first count None not_here none = λ n low high. none n (omega arith) (omega arith)
-next_lowest p first count (Some found) not_here lowest = record {
-  low = elim (cases_eq found first) [
-    | inl same ↦ absurd (let e : true ≡ false = sym lowest.passes ∙ (ap p same ∙ not_here) in cc)
-    | inr other ↦ omega (arith, lowest.low, other)
-  ];
-  high = omega (arith, lowest.high);
-  passes = lowest.passes;
-  below = λ n low high. lowest.below n (omega arith) high;
-}
+next_lowest p first count found not_here lowest = grind (arith, cases_eq)
 
 -- if the first number passes
 here_lowest : (p : ℕ → Bool) (first past : ℕ) (found : Option ℕ) → first < past → p first ≡ true
     → FindsLowest p first past found → found ≡ Some first
-here_lowest p first past None lt here none =
-    absurd (let e : true ≡ false = sym here ∙ none first (omega arith) lt in cc)
-here_lowest p first past (Some found) lt here lowest = elim (cases_eq found first) [
-  | inl same ↦ ap (λ n. Some n) same
-  | inr other ↦
-      absurd (let e : true ≡ false =
-      sym here ∙ lowest.below first (omega arith) (omega (arith, lowest.low, other)) in cc)
-]
+here_lowest p first past found lt here lowest = grind (arith, cases_eq)
 
 -- the lowest number is what `find` finds
 pub found_is : (p : ℕ → Bool) (first count : ℕ) (found : Option ℕ) → FindsLowest p first (first + count) found
@@ -165,33 +122,12 @@ found_is p first (suc count) found finds = elim (cases_Bool (p first)) [
 
 -- a bit of a truth value
 bit-one : (b : Bool) → eqb (bit_of b) 1 ≡ b
-bit-one true = refl
-bit-one false = refl
+bit-one b = grind arith
 
 -- the set after one bit of a frame's word changed
 pub has-set : (words : List ℕ) (frame before word : ℕ) (is_in : Bool) → frame < 64 * length words
     → before ≡ get_or words (frame / 64) 0
     → ((i : ℕ) → i < 64 → bit_at word i ≡ cond (eqb i (frame % 64)) (bit_of is_in) (bit_at before i))
     → (n : ℕ) → has (set words (frame / 64) word) n ≡ cond (eqb n frame) is_in (has words n)
-has-set words frame before word is_in low old bits n = elim (cases_eq (n / 64) (frame / 64)) [
-  | inl same ↦
-      let now : get_or (set words (frame / 64) word) (n / 64) 0 ≡ word =
-      rw same (get_or-set_same words (frame / 64) word 0 (omega arith)) in
-      let was : before ≡ get_or words (n / 64) 0 = old ∙ ap (λ k. get_or words k 0) (sym same) in
-      rw (now, bits (n % 64) (omega arith)) (here same (get_or words (n / 64) 0) was)
-  | inr other ↦
-      ap (λ w. eqb (bit_at w (n % 64)) 1) (get_or-set_other words (frame / 64) (n / 64) word 0 other)
-      ∙ sym (ap (λ b. cond b is_in (has words n)) (ne_eqb n frame (λ e. other (ap (λ k. k / 64) e))))
-]
-  where
-    here : n / 64 ≡ frame / 64 → (w : ℕ) → before ≡ w
-        → eqb (cond (eqb (n % 64) (frame % 64)) (bit_of is_in) (bit_at before (n % 64))) 1
-        ≡ cond (eqb n frame) is_in (eqb (bit_at w (n % 64)) 1)
-    here same w was = elim (cases_eq n frame) [
-      | inl e ↦
-          rw ((eq-eqb (n % 64) (frame % 64) (ap (λ k. k % 64) e)), bit-one is_in)
-          (sym (ap (λ b. cond b is_in (eqb (bit_at w (n % 64)) 1)) (eq-eqb n frame e)))
-      | inr other ↦
-          rw ((ne_eqb (n % 64) (frame % 64) (λ e. other (omega (arith, same, e)))), was)
-          (sym (ap (λ b. cond b is_in (eqb (bit_at w (n % 64)) 1)) (ne_eqb n frame other)))
-    ]
+has-set words frame before word is_in low old bits n =
+    grind (arith, cases_eq, get_or-set_same, get_or-set_other, ne_eqb, eq-eqb, bit-one)

@@ -7,3 +7,6 @@ pub mod Places
 pub mod Tables
 pub mod Views
 mod WordCalls
+mod Kernel
+mod Notes
+mod Values

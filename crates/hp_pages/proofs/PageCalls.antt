@@ -1,5 +1,5 @@
 -- What the calls of the layer keep and note.
-use Rattle.std.proofs.Common.{◌≡◌, ℕ, ◌<◌, ◌+◌, List, [], ◌∷◌, ◌++◌, length, get_or, set, Option, Some, None, refl, sym, ap, ◌∙◌, subst, inl, inr, arith}
+use Rattle.std.proofs.Common.{◌≡◌, ℕ, ◌<◌, ◌+◌, List, [], ◌∷◌, ◌++◌, length, Option, Some, None, inl, inr, arith}
 use Rattle.std.specs.Prelude.{IfSome}
 use Rattle.std.proofs.lemmas.Bool.{cases_eq}
 use Rattle.std.proofs.lemmas.List.{get_or-set_same, get_or-set_other, set-set, set-get_or}
@@ -22,8 +22,7 @@ use Rattle.hp_pages.proofs.PageParts.{AreSized, has_none, held_no, held_yes, not
 -- holds one
 pub needed_at : (v new : PageFrames) (f g : ℕ) (b : Option (List ℕ))
     → (holders v.table f ≡ 1 → holders new.table g ≡ 1) → IfSome b (IsNeeded v f) → IfSome b (IsNeeded new g)
-needed_at v new f g None one needed = tt
-needed_at v new f g (Some words) one needed = record { held = one needed.held; some = needed.some }
+needed_at v new f g b one needed = grind arith
 
 -- what mapping a page notes
 pub notes-map : (l : LayoutParts) (v : PageFrames) (owner page frame : ℕ) (was now : TapeValue)
@@ -40,19 +39,14 @@ notes-map l v owner page frame was now are settled in_owners in_pages in_frames 
       few = omega arith;
       own = (tt, tt);
       numbers = ((in_owners, in_pages, tt, in_frames), tt);
-      lead = record {
-        fit = (tt, (entry-same v.table owner page (Some frame) is_in, has_none v frame settled free));
-        back = same_frames _ _ _ _ (entry-back v.table owner page (Some frame) None is_in unmapped) refl;
-      };
+      lead = grind (arith, entry-same, has_none, same_frames, entry-back);
     }
 
 -- how many pages each frame holds once a page is mapped
 map_counts : (v : PageFrames) (owner page frame : ℕ) → IsIn v.table owner page
     → entry_of v.table owner page ≡ None → (f : ℕ)
     → holders (with_entry v.table owner page (Some frame)) f ≡ holders v.table f + held f (Some frame) 1
-map_counts v owner page frame is_in unmapped f =
-    let g = rw unmapped at (holders-entry v.table owner page (Some frame) f is_in.in_owners is_in.in_pages) in
-    omega (arith, g)
+map_counts v owner page frame is_in unmapped f = grind (arith, holders-entry)
 
 -- a view stays settled when a page is mapped
 pub settled-map : (l : LayoutParts) (v : PageFrames) (owner page frame : ℕ) → ArePageFramesOf l v
@@ -60,27 +54,13 @@ pub settled-map : (l : LayoutParts) (v : PageFrames) (owner page frame : ℕ) �
     → owner < l.owners → page < l.pages → entry_of v.table owner page ≡ None → holders v.table frame ≡ 0
     → AreSettled (map_frame v owner page frame)
 settled-map l v owner page frame are settled in_owners in_pages unmapped free =
-    let counts = map_counts v owner page frame (page_of l v owner page are in_owners in_pages) unmapped in
-    let new = map_frame v owner page frame in
-    record {
-      once = λ f. elim (cases_eq frame f) [
-        | inl same ↦
-            omega (arith, counts f, held_yes frame f same, subst (λ (n : ℕ). holders v.table n ≡ 0) same free)
-        | inr other ↦ omega (arith, counts f, held_no frame f other, settled.once f)
-      ];
-      buffers = λ f. needed_at v new f f (buffer_of v f) (λ one. elim (cases_eq frame f) [
-        | inl same ↦ absurd (omega (arith, one, subst (λ (n : ℕ). holders v.table n ≡ 0) same free))
-        | inr other ↦ omega (arith, counts f, held_no frame f other, one)
-      ]) (settled.buffers f);
-    }
+    grind (arith, map_counts, page_of, cases_eq, held_yes, held_no, needed_at)
 
 -- ---- unmap
 
 -- taking the buffer away from a frame that has none changes nothing
 pub kept-none : (v : PageFrames) (frame : ℕ) → buffer_of v frame ≡ None → with_buffer v frame None ≡ v
-kept-none v frame none =
-    same_frames _ _ _ _ refl
-    (ap (λ (b : Option (List ℕ)). set v.buffers frame b) (sym none) ∙ set-get_or v.buffers frame None)
+kept-none v frame none = grind (arith, same_frames, set-get_or)
 
 -- what a call that changes nothing notes
 pub notes-nothing : (l : LayoutParts) (v new : PageFrames) (tape : TapeValue) → new ≡ v
@@ -94,20 +74,14 @@ pub notes-empty : (l : LayoutParts) (v : PageFrames) (frame : ℕ) (words : List
     → now.deltas ≡ was.deltas ++ Emptied frame words ∷ []
     → NotesPages l 1 was now (with_buffer v frame None) v
 notes-empty l v frame words was now are in_frames there room noted =
-    let len : length words ≡ l.words =
-    subst (λ (b : Option (List ℕ)). IfSome b (λ ws. length ws ≡ l.words)) there (are.words frame) in
-    let within : frame < length v.buffers = omega (arith, are.frames, in_frames) in
+    let len : length words ≡ l.words = grind arith in
     record {
       deltas = Emptied frame words ∷ [];
       tape = noted_one was now _ room noted;
       few = omega arith;
       own = (tt, tt);
       numbers = ((in_frames, len), tt);
-      lead = record {
-        fit = (tt, get_or-set_same v.buffers frame None None within);
-        back = same_frames _ _ _ _ refl
-            (rw (set-set v.buffers frame None (Some words), ← there) (set-get_or v.buffers frame None));
-      };
+      lead = grind (arith, get_or-set_same, same_frames, set-set, set-get_or);
     }
 
 -- what clearing an entry notes
@@ -124,19 +98,14 @@ notes-clear l v owner page frame was now are in_owners in_pages in_frames mapped
       few = omega arith;
       own = (tt, tt);
       numbers = ((in_owners, in_pages, in_frames, tt), tt);
-      lead = record {
-        fit = (tt, (entry-same v.table owner page None is_in, tt));
-        back = same_frames _ _ _ _ (entry-back v.table owner page None (Some frame) is_in mapped) refl;
-      };
+      lead = grind (arith, entry-same, same_frames, entry-back);
     }
 
 -- how many pages each frame holds once a page is unmapped
 unmap_counts : (v : PageFrames) (owner page frame : ℕ) → IsIn v.table owner page
     → entry_of v.table owner page ≡ Some frame → (f : ℕ)
     → holders (with_entry v.table owner page None) f + held f (Some frame) 1 ≡ holders v.table f
-unmap_counts v owner page frame is_in mapped f =
-    let g = rw mapped at (holders-entry v.table owner page None f is_in.in_owners is_in.in_pages) in
-    omega (arith, g)
+unmap_counts v owner page frame is_in mapped f = grind (arith, holders-entry)
 
 -- a view stays settled when a page is unmapped
 pub settled-unmap : (l : LayoutParts) (v : PageFrames) (owner page frame : ℕ) → ArePageFramesOf l v
@@ -144,23 +113,10 @@ pub settled-unmap : (l : LayoutParts) (v : PageFrames) (owner page frame : ℕ) 
     → owner < l.owners → page < l.pages → entry_of v.table owner page ≡ Some frame
     → AreSettled (unmap_from v owner page frame)
 settled-unmap l v owner page frame are settled in_owners in_pages mapped =
-    let is_in = page_of l v owner page are in_owners in_pages in
-    let in_frames : IsFrame l frame =
-    subst (λ (entry : Option ℕ). IfSome entry (IsFrame l)) mapped (are.mapped owner page) in
-    let within : frame < length v.buffers = omega (arith, are.frames, in_frames) in
-    let counts = unmap_counts v owner page frame is_in mapped in
-    let new = unmap_from v owner page frame in
+    let counts = unmap_counts v owner page frame (page_of l v owner page are in_owners in_pages) mapped in
     record {
       once = λ f. omega (arith, counts f, settled.once f);
-      buffers = λ f. elim (cases_eq frame f) [
-        | inl same ↦
-            let none : buffer_of new f ≡ None =
-            rw (← same) (get_or-set_same v.buffers frame None None within) in
-            subst (λ (b : Option (List ℕ)). IfSome b (IsNeeded new f)) (sym none) tt
-        | inr other ↦
-            rw (get_or-set_other v.buffers frame f None None (λ e. other (sym e))) (needed_at v new f f
-            (buffer_of v f) (λ one. omega (arith, counts f, held_no frame f other, one)) (settled.buffers f))
-      ];
+      buffers = grind (arith, cases_eq, get_or-set_same, get_or-set_other, needed_at, held_no);
     }
 
 -- ---- move
@@ -168,9 +124,7 @@ settled-unmap l v owner page frame are settled in_owners in_pages mapped =
 -- a frame that holds a page is not a frame that holds none
 apart_of : (v : PageFrames) (owner page from to : ℕ) → entry_of v.table owner page ≡ Some from
     → holders v.table to ≡ 0 → from ≡ to → ⊥
-apart_of v owner page from to mapped free same =
-    let none = subst (λ (n : ℕ). holders v.table n ≡ 0) (sym same) free in
-    omega (arith, none, holds_some v.table owner page from mapped)
+apart_of v owner page from to mapped free same = grind (arith, holds_some)
 
 -- what moving a page notes
 pub notes-move : (l : LayoutParts) (v : PageFrames) (owner page from to : ℕ) (was mid now : TapeValue)
@@ -203,8 +157,7 @@ move_counts : (v : PageFrames) (owner page from to : ℕ) → IsIn v.table owner
     → entry_of v.table owner page ≡ Some from → (f : ℕ)
     → holders (with_entry v.table owner page (Some to)) f + held f (Some from) 1
     ≡ holders v.table f + held f (Some to) 1
-move_counts v owner page from to is_in mapped f =
-    rw mapped at (holders-entry v.table owner page (Some to) f is_in.in_owners is_in.in_pages)
+move_counts v owner page from to is_in mapped f = grind (arith, holders-entry)
 
 -- a view stays settled when a page moves
 pub settled-move : (l : LayoutParts) (v : PageFrames) (owner page from to : ℕ) → ArePageFramesOf l v
@@ -213,40 +166,16 @@ pub settled-move : (l : LayoutParts) (v : PageFrames) (owner page from to : ℕ)
     → owner < l.owners → page < l.pages
     → AreSettled (move_entry v owner page from to)
 settled-move l v owner page from to are settled from_in to_in mapped free in_owners in_pages =
-    let from_within : from < length v.buffers = omega (arith, are.frames, from_in) in
     let to_within : to < length v.buffers = omega (arith, are.frames, to_in) in
     let counts = move_counts v owner page from to (page_of l v owner page are in_owners in_pages) mapped in
     let apart = apart_of v owner page from to mapped free in
-    let x = buffer_of v from in
-    let y = buffer_of v to in
-    let new = move_entry v owner page from to in
     record {
-      once = λ f. elim (cases_eq to f) [
-        | inl same ↦
-            omega (arith, counts f, held_yes to f same, subst (λ (n : ℕ). holders v.table n ≡ 0) same free)
-        | inr other ↦ omega (arith, counts f, held_no to f other, settled.once f)
-      ];
+      once = grind (arith, cases_eq, held_yes, held_no);
       buffers = λ f. elim (cases_eq to f) [
-        | inl same ↦
-            let one : holders new.table f ≡ 1 =
-            omega (
-              arith,
-              counts f,
-              held_yes to f same,
-              held_no from f (λ e. apart (e ∙ sym same)),
-              subst (λ (n : ℕ). holders v.table n ≡ 0) same free,
-            ) in
-            rw (subst (λ (n : ℕ). get_or (set (set v.buffers from y) to x) n None ≡ x) same (swapped_b
-            v.buffers from to x y to_within)) (needed_at v new from f x (λ _. one) (settled.buffers from))
+        | inl same ↦ grind (arith, held_yes, held_no, swapped_b, needed_at)
         | inr other_to ↦ elim (cases_eq from f) [
-          | inl same ↦
-              rw (subst (λ (n : ℕ). get_or (set (set v.buffers from y) to x) n None ≡ y) same
-              (swapped_a v.buffers from to x y apart from_within)) (rw (has_none v to settled free) tt)
-          | inr other_from ↦
-              rw (get_or-set_other (set v.buffers from y) to f x None (λ e. other_to (sym e)))
-              (rw (get_or-set_other v.buffers from f y None (λ e. other_from (sym e)))
-              (needed_at v new f f (buffer_of v f) (λ one. omega
-              (arith, counts f, held_no from f other_from, held_no to f other_to, one)) (settled.buffers f)))
+          | inl same ↦ grind (arith, swapped_a, has_none)
+          | inr other_from ↦ grind (arith, get_or-set_other, needed_at, held_no)
         ]
       ];
     }

@@ -1,19 +1,18 @@
 -- Parts of the layer's view: buffers, pages, tapes, and the view without pages.
-use Rattle.std.proofs.Common.{◌≡◌, ℕ, zero, suc, ◌<◌, ◌+◌, List, [], ◌∷◌, ◌++◌, length, get_or, set, map, take, replicate, Option, Some, None, refl, sym, ◌∙◌, subst, inl, inr, arith}
+use Rattle.std.proofs.Common.{◌≡◌, ℕ, zero, suc, ◌<◌, ◌+◌, List, [], ◌∷◌, ◌++◌, length, get_or, set, map, take, replicate, Option, Some, None, refl, subst, arith}
 use Rattle.std.specs.Prelude.{IfSome, option_map}
 use Rattle.std.specs.List.{AllByRecursion, range_with_len}
-use Rattle.std.specs.Option.{option_and_then}
 use Rattle.std.proofs.lemmas.Bool.{cases_eq, eq-eqb, ne_eqb, cond-true, cond-false}
 use Rattle.std.proofs.lemmas.List.{append_assoc, get_or-set_same, get_or-set_other, length-set, set-set, set_comm, set-get_or, take_more}
 use Rattle.hp_units.specs.LayoutParts.{LayoutParts}
 use Rattle.hp_units.specs.Arithmetic.{frame_count}
 use Rattle.hp_units.specs.Boot.{empty_pages}
 use Rattle.hp_units.specs.Memory.{entry_of, with_entry}
-use Rattle.hp_units.specs.Pages.{page_at, page_from, words_at}
+use Rattle.hp_units.specs.Pages.{page_from}
 use Rattle.hp_tape.specs.declared.deltas.Delta.{Delta}
-use Rattle.hp_tape.specs.Deltas.{PageFrames, buffer_for, buffer_of, page_frames_of}
+use Rattle.hp_tape.specs.Deltas.{PageFrames, buffer_of, page_frames_of}
 use Rattle.hp_tape.specs.Tapes.{TapeValue}
-use Rattle.hp_pages.specs.Pages.{AreLayerOf, ArePageFramesOf, AreSettled, IsNeeded, PagesValue}
+use Rattle.hp_pages.specs.Pages.{AreLayerOf, ArePageFramesOf, AreSettled, PagesValue}
 use Rattle.hp_pages.specs.Places.{IsTable, TableValue, held, holders}
 use Rattle.hp_pages.proofs.Places.{IsIn, page_from-None, page_from-Some}
 use Rattle.hp_pages.proofs.Tables.{empty_first, page_in, row_length}
@@ -55,43 +54,19 @@ pub layer-buffer : (l : LayoutParts) (t : TableValue) (buffers new : List (Optio
     → new ≡ set buffers frame b
     → AreLayerOf l t new zeros
 layer-buffer l t buffers new zeros frame b are low sized e =
-    subst (λ (bs : List (Option (List ℕ))). AreLayerOf l t bs zeros) (sym e) (record {
-      frames = are.frames;
-      pages = are.pages;
-      owners = are.owners;
-      buffers_of = length-set buffers frame b ∙ are.buffers_of;
-      words = words_at;
-      zeros = are.zeros;
-      few_words = are.few_words;
-    })
-  where
-    words_at : (f : ℕ) → IfSome (get_or (set buffers frame b) f None) (λ words. length words ≡ l.words)
-    words_at f = elim (cases_eq f frame) [
-      | inl same ↦ rw (same, get_or-set_same buffers frame b None (omega (arith, are.buffers_of, low))) sized
-      | inr other ↦ rw (get_or-set_other buffers frame f b None other) (are.words f)
-    ]
+    grind (arith, length-set, cases_eq, get_or-set_same, get_or-set_other)
 
 -- a changed word leaves the size of its buffer the same
 pub same-size : (b : Option (List ℕ)) (size index value : ℕ) → IfSome b (λ words. length words ≡ size)
     → IfSome (option_map (λ words. set words index value) b) (λ words. length words ≡ size)
-same-size None size index value sized = sized
-same-size (Some words) size index value sized = length-set words index value ∙ sized
+same-size b size index value sized = grind (arith, length-set)
 
 -- and when one entry changes
 pub layer-entry : (l : LayoutParts) (t new : TableValue) (buffers : List (Option (List ℕ))) (zeros : List ℕ)
     (owner page : ℕ) (entry : Option ℕ)
     → AreLayerOf l t buffers zeros → new ≡ record t { rows = with_entry t.rows owner page entry }
     → AreLayerOf l new buffers zeros
-layer-entry l t new buffers zeros owner page entry are e =
-    subst (λ (u : TableValue). AreLayerOf l u buffers zeros) (sym e) (record {
-      frames = are.frames;
-      pages = are.pages;
-      owners = length-set t.rows owner _ ∙ are.owners;
-      buffers_of = are.buffers_of;
-      words = are.words;
-      zeros = are.zeros;
-      few_words = are.few_words;
-    })
+layer-entry l t new buffers zeros owner page entry are e = grind (arith, length-set)
 
 -- the buffers are of the layout's frames and words
 pub record AreSized (l : LayoutParts) (v : PageFrames) : Type 0 where
@@ -111,11 +86,7 @@ page_of l v owner page are in_owners in_pages =
 -- a frame without a page has no buffer
 pub has_none : (v : PageFrames) (frame : ℕ) → AreSettled v → holders v.table frame ≡ 0
     → buffer_of v frame ≡ None
-has_none v frame settled none = needless (buffer_of v frame) (settled.buffers frame)
-  where
-    needless : (b : Option (List ℕ)) → IfSome b (IsNeeded v frame) → b ≡ None
-    needless None needed = refl
-    needless (Some words) needed = absurd (omega (arith, needed.held, none))
+has_none v frame settled none = grind arith
 
 -- the first page of a frame, in a layout
 pub record IsFirstPage (l : LayoutParts) (v : PageFrames) (frame : ℕ) (page : ℕ × ℕ) : Type 0 where
@@ -142,8 +113,7 @@ noted_one was now d room noted = rw (room, noted)
 pub noted_two : (was mid now : TapeValue) (d e : Delta) → mid.room ≡ was.room
     → mid.deltas ≡ was.deltas ++ d ∷ [] → now.room ≡ mid.room → now.deltas ≡ mid.deltas ++ e ∷ []
     → now ≡ record { room = was.room; deltas = was.deltas ++ (d ∷ e ∷ []) }
-noted_two was mid now d e mid_room mid_noted room noted =
-    rw (room, mid_room, noted, mid_noted, append_assoc was.deltas (d ∷ []) (e ∷ []))
+noted_two was mid now d e mid_room mid_noted room noted = grind (arith, append_assoc)
 
 -- what an entry holds
 pub held_yes : (frame f : ℕ) → frame ≡ f → held f (Some frame) 1 ≡ 1
@@ -155,25 +125,18 @@ held_no frame f ne = cond-false _ _ _ (ne_eqb frame f ne)
 -- two places of a list after a swap
 pub swapped_a : (buffers : List (Option (List ℕ))) (a b : ℕ) (x y : Option (List ℕ)) → (a ≡ b → ⊥)
     → a < length buffers → get_or (set (set buffers a y) b x) a None ≡ y
-swapped_a buffers a b x y apart a_in =
-    get_or-set_other (set buffers a y) b a x None apart ∙ get_or-set_same buffers a y None a_in
+swapped_a buffers a b x y apart a_in = grind (arith, get_or-set_other, get_or-set_same)
 
 pub swapped_b : (buffers : List (Option (List ℕ))) (a b : ℕ) (x y : Option (List ℕ)) → b < length buffers
     → get_or (set (set buffers a y) b x) b None ≡ x
-swapped_b buffers a b x y b_in =
-    get_or-set_same (set buffers a y) b x None (omega (arith, length-set buffers a y, b_in))
+swapped_b buffers a b x y b_in = grind (arith, get_or-set_same, length-set)
 
 -- two swaps
 pub swap_twice : (buffers : List (Option (List ℕ))) (a b : ℕ) → (a ≡ b → ⊥) → a < length buffers
     → b < length buffers
     → let once = set (set buffers a (get_or buffers b None)) b (get_or buffers a None) in
     set (set once a (get_or once b None)) b (get_or once a None) ≡ buffers
-swap_twice buffers a b apart a_in b_in =
-    let x = get_or buffers a None in
-    let y = get_or buffers b None in
-    rw (swapped_b buffers a b x y b_in, swapped_a buffers a b x y apart a_in)
-    (rw ((set_comm (set buffers a y) b a x x (λ e. apart (sym e))), set-set buffers a y x)
-    (rw (set-get_or buffers a None, set-set buffers b x y) (set-get_or buffers b None)))
+swap_twice buffers a b apart a_in b_in = grind (arith, swapped_b, swapped_a, set_comm, set-set, set-get_or)
 
 -- ---- no pages
 
@@ -190,10 +153,7 @@ no_pages l =
 
 -- it is the frame view of empty pages
 pub no_pages_is : (l : LayoutParts) → page_frames_of l (empty_pages l) ≡ no_pages l
-no_pages_is l =
-    rw (map_none
-    (λ frame. option_and_then (λ page. option_and_then buffer_for (words_at (empty_pages l) page.0 page.1))
-    (page_at (empty_pages l) frame)) (λ frame. rw (empty_first l.owners l.pages frame)) 0 (frame_count l))
+no_pages_is l = grind (arith, map_none, empty_first)
 
 -- no buffer
 abbrev pub no_buffer : Option (List ℕ)
@@ -223,8 +183,7 @@ pub new_is : (l layout : LayoutParts) (rows : List (List (Option ℕ))) (buffers
     → rows ≡ replicate l.owners (replicate l.pages None) → buffers ≡ replicate (frame_count l) None
     → value_of layout rows buffers ≡ record { layout = l; pages = page_frames_of l (empty_pages l) }
 new_is l layout rows buffers layout_is rows_are buffers_are =
-    rw layout_is (rw (same_frames rows (replicate l.owners (replicate l.pages None)) buffers
-    (replicate (frame_count l) None) rows_are buffers_are) (rw (← no_pages_is l)))
+    grind (arith, same_frames, replicate, no_pages_is)
 
 -- ---- lists that are copied
 
@@ -232,6 +191,4 @@ new_is l layout rows buffers layout_is rows_are buffers_are =
 pub copied-more : {X : Type 0} (xs items copy new : List X) (at : ℕ) (item x : X) → items ≡ xs
     → at < length items → item ≡ get_or items at item → x ≡ item → copy ≡ take at xs → new ≡ copy ++ x ∷ []
     → new ≡ take (at + 1) xs
-copied-more {X} xs items copy new at item x same low read is done e =
-    rw (e, done, is, read, same)
-    (sym (take_more xs at item (subst (λ (ys : List X). at < length ys) same low)))
+copied-more {X} xs items copy new at item x same low read is done e = grind (arith, take_more)

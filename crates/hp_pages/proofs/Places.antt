@@ -1,5 +1,5 @@
 -- Sums of places, and what they show.
-use Rattle.std.proofs.Common.{◌≡◌, ℕ, zero, suc, ◌<◌, ◌≤◌, ◌+◌, ◌*◌, true, false, cond, ltb, List, [], ◌∷◌, length, get_or, set, Option, Some, None, refl, sym, ap, ◌∙◌, subst, inl, inr, arith}
+use Rattle.std.proofs.Common.{◌≡◌, ℕ, zero, suc, ◌<◌, ◌≤◌, ◌+◌, ◌*◌, true, false, cond, ltb, List, [], ◌∷◌, length, get_or, set, Option, Some, None, refl, sym, ◌∙◌, inl, inr, arith}
 use Rattle.std.specs.Prelude.{count_by, position, is_some}
 use Rattle.std.specs.List.{AllByRecursion, position_or_len}
 use Rattle.std.specs.Option.{option_map, option_or}
@@ -16,8 +16,7 @@ use Rattle.hp_pages.specs.Places.{holders, held, row_sum, table_sum, place_of}
 
 -- what it means that an entry is a frame
 pub holds_is : (frame : ℕ) (entry : Option ℕ) → holds frame entry ≡ true → entry ≡ Some frame
-holds_is frame (Some other) h = ap (λ n. Some n) (eqb-true other frame h)
-holds_is frame None h = cc
+holds_is frame entry h = grind (arith, eqb-true)
 
 pub is_held : (frame : ℕ) (entry : Option ℕ) → entry ≡ Some frame → holds frame entry ≡ true
 is_held frame entry e = rw e (eq-eqb frame frame refl)
@@ -29,10 +28,7 @@ pub row_sum-set : (base : ℕ) (row : List (Option ℕ)) (i place : ℕ) (x : Op
     → place ≡ base + i
     → row_sum base (set row i x) f + held f (get_or row i None) place ≡ row_sum base row f + held f x place
 row_sum-set base [] i place x f lt e = absurd (omega arith)
-row_sum-set base (y ∷ row) zero place x f lt e =
-    let same : place ≡ base = omega arith in
-    rw same (let r = row_sum (base + 1) row f in let a = held f x base in let b = held f y
-    base in let goal : a + r + b ≡ b + r + a = omega arith in goal)
+row_sum-set base (y ∷ row) zero place x f lt e = grind arith
 row_sum-set base (y ∷ row) (suc i) place x f lt e =
     omega (arith, row_sum-set (base + 1) row i place x f (omega arith) (omega arith))
 
@@ -44,10 +40,7 @@ pub table_sum-set : (pages base : ℕ) (table : List (List (Option ℕ))) (owner
     → table_sum pages base (set table owner row) f + row_sum place (get_or table owner []) f
     ≡ table_sum pages base table f + row_sum place row f
 table_sum-set pages base [] owner place row f lt e = absurd (omega arith)
-table_sum-set pages base (first ∷ table) zero place row f lt e =
-    let same : place ≡ base = omega arith in
-    rw same (let r = table_sum pages (base + pages) table f in let a = row_sum base row f in let b = row_sum
-    base first f in let goal : a + r + b ≡ b + r + a = omega arith in goal)
+table_sum-set pages base (first ∷ table) zero place row f lt e = grind arith
 table_sum-set pages base (first ∷ table) (suc owner) place row f lt e =
     let step =
     table_sum-set pages (base + pages) table owner place row f (omega arith)
@@ -60,26 +53,14 @@ pub table_sum-entry : (pages : ℕ) (table : List (List (Option ℕ))) (owner pa
     → table_sum pages 1 (with_entry table owner page x) f
     + held f (entry_of table owner page) (place_of pages owner page)
     ≡ table_sum pages 1 table f + held f x (place_of pages owner page)
-table_sum-entry pages table owner page x f in_owners in_pages =
-    let base = 1 + owner * pages in
-    let whole =
-    table_sum-set pages 1 table owner base (set (get_or table owner []) page x) f in_owners refl in
-    let part = row_sum-set base (get_or table owner []) page (place_of pages owner page) x f in_pages refl in
-    omega (arith, whole, part)
+table_sum-entry pages table owner page x f in_owners in_pages = grind (arith, table_sum-set, row_sum-set)
 
 -- how many pages a frame holds after one entry changed
 pub holders-entry : (table : List (List (Option ℕ))) (owner page : ℕ) (x : Option ℕ) (f : ℕ)
     → owner < length table → page < length (get_or table owner [])
     → holders (with_entry table owner page x) f + held f (entry_of table owner page) 1
     ≡ holders table f + held f x 1
-holders-entry table owner page x f in_owners in_pages =
-    let whole =
-    sum_by-set (λ (row : List (Option ℕ)). count_by (holds f) row) table owner
-    (set (get_or table owner []) page x) [] in_owners in
-    let part =
-    sum_by-set (λ (entry : Option ℕ). cond (holds f entry) 1 0) (get_or table owner []) page x None
-    in_pages in
-    omega (arith, whole, part)
+holders-entry table owner page x f in_owners in_pages = grind (arith, sum_by-set)
 
 -- ---- a frame that holds no page
 
@@ -88,10 +69,7 @@ row_none base [] f none = refl
 row_none base (entry ∷ row) f none =
     let whole : cond (holds f entry) 1 0 + count_by (holds f) row ≡ 0 =
     sym (sum_by-cons (λ (e : Option ℕ). cond (holds f e) 1 0) entry row) ∙ none in
-    elim (cases_Bool (holds f entry)) [
-      | inl is ↦ absurd (omega (arith, rw is at whole))
-      | inr isnt ↦ rw isnt (omega (arith, row_none (base + 1) row f (omega (arith, whole))))
-    ]
+    grind (arith, cases_Bool, row_none (base + 1) row f (omega (arith, whole)))
 
 -- the sum of a frame that holds no page is 0
 pub sum_none : (pages base : ℕ) (table : List (List (Option ℕ))) (f : ℕ) → holders table f ≡ 0
@@ -100,11 +78,7 @@ sum_none pages base [] f none = refl
 sum_none pages base (row ∷ table) f none =
     let whole : count_by (holds f) row + holders table f ≡ 0 =
     sym (sum_by-cons (λ (r : List (Option ℕ)). count_by (holds f) r) row table) ∙ none in
-    omega (
-      arith,
-      row_none base row f (omega (arith, whole)),
-      sum_none pages (base + pages) table f (omega (arith, whole)),
-    )
+    grind (arith, row_none, sum_none pages (base + pages) table f (omega (arith, whole)))
 
 -- ---- the first page of a frame
 
@@ -113,9 +87,10 @@ row_free : (f : ℕ) (row : List (Option ℕ)) → ((k : ℕ) → k < length row
     → count_by (holds f) row ≡ 0
 row_free f [] none = refl
 row_free f (entry ∷ row) none =
-    let here : holds f entry ≡ false = none 0 (omega arith) in
-    let rest = row_free f row (λ k lt. none (suc k) (omega arith)) in
-    sum_by-cons (λ (e : Option ℕ). cond (holds f e) 1 0) entry row ∙ rw here (omega (arith, rest))
+    sum_by-cons (λ (e : Option ℕ). cond (holds f e) 1 0) entry row ∙ rw (none 0 (omega arith)) (omega (
+      arith,
+      (row_free f row (λ k lt. none (suc k) (omega arith))),
+    ))
 
 -- `position` finds no entry: none of the row is the frame
 no_position : (f : ℕ) (row : List (Option ℕ)) → position (holds f) row ≡ None → count_by (holds f) row ≡ 0
@@ -141,16 +116,7 @@ from_row : (owner : ℕ) (row : List (Option ℕ)) (table : List (List (Option �
     → (page_from (owner + 1) table f ≡ Some found → IsPageFrom (owner + 1) table f found)
     → option_or (option_map (λ page. (owner, page)) at) (page_from (owner + 1) table f) ≡ Some found
     → IsPageFrom owner (row ∷ table) f found
-from_row owner row table f found (Some page) first rest e =
-    let here = position-Some (holds f) row page None first in
-    let same : (owner, page) ≡ found = cc in
-    subst (λ (p : ℕ × ℕ). IsPageFrom owner (row ∷ table) f p) same (record {
-      row = 0;
-      owner_is = omega arith;
-      in_owners = omega arith;
-      in_pages = here.0;
-      entry = holds_is f (get_or row page None) here.1;
-    })
+from_row owner row table f found (Some page) first rest e = grind (arith, position-Some, holds_is)
 from_row owner row table f found None first rest e =
     let later = rest e in record {
       row = suc later.row;
@@ -195,26 +161,12 @@ pub record IsIn {A : Type 0} (table : List (List (Option A))) (owner page : ℕ)
 
 pub entry_in : {A : Type 0} (table : List (List (Option A))) (owner page : ℕ) (x : A)
     → entry_of table owner page ≡ Some x → IsIn table owner page
-entry_in {A = A} table owner page x e = record {
-  in_owners = elim (cases_lt owner (length table)) [
-    | inl within ↦ within
-    | inr past ↦
-        absurd (let n : None ≡ Some x = sym
-        (ap (λ (row : List (Option A)). get_or row page None) (get_or_past table owner [] past)) ∙ e in cc)
-  ];
-  in_pages = elim (cases_lt page (length (get_or table owner []))) [
-    | inl within ↦ within
-    | inr past ↦
-        absurd (let n : None ≡ Some x = sym (get_or_past (get_or table owner []) page None past) ∙ e in cc)
-  ];
-}
+entry_in {A = A} table owner page x e = grind (arith, cases_lt, get_or_past)
 
 -- a changed entry, and the others
 pub entry-same : {A : Type 0} (table : List (List (Option A))) (owner page : ℕ) (x : Option A)
     → IsIn table owner page → entry_of (with_entry table owner page x) owner page ≡ x
-entry-same {A = A} table owner page x is_in =
-    rw (get_or-set_same table owner (set (get_or table owner []) page x) [] is_in.in_owners)
-    (get_or-set_same (get_or table owner []) page x None is_in.in_pages)
+entry-same {A = A} table owner page x is_in = grind (arith, get_or-set_same)
 
 pub entry-other : {A : Type 0} (table : List (List (Option A))) (owner page : ℕ) (x : Option A)
     (other_owner other_page : ℕ)
@@ -222,23 +174,13 @@ pub entry-other : {A : Type 0} (table : List (List (Option A))) (owner page : �
     → (other_owner ≡ owner → other_page ≡ page → ⊥)
     → entry_of (with_entry table owner page x) other_owner other_page ≡ entry_of table other_owner other_page
 entry-other {A = A} table owner page x other_owner other_page is_in apart =
-    elim (cases_eq other_owner owner) [
-      | inl same ↦ rw same (
-          rw (get_or-set_same table owner (set (get_or table owner []) page x) [] is_in.in_owners)
-          (get_or-set_other (get_or table owner []) page other_page x None (apart same)))
-      | inr other ↦
-          rw (get_or-set_other table owner other_owner (set (get_or table owner []) page x) [] other)
-    ]
+    grind (arith, cases_eq, get_or-set_same, get_or-set_other)
 
 -- an entry that is set back
 pub entry-back : {A : Type 0} (table : List (List (Option A))) (owner page : ℕ) (x was : Option A)
     → IsIn table owner page → entry_of table owner page ≡ was
     → with_entry (with_entry table owner page x) owner page was ≡ table
-entry-back {A = A} table owner page x was is_in e =
-    let row = get_or table owner [] in
-    rw (get_or-set_same table owner (set row page x) [] is_in.in_owners)
-    (rw (set-set table owner (set row page x) (set (set row page x) page was), set-set row page x was)
-    (rw (← e, set-get_or row page None) (set-get_or table owner [])))
+entry-back {A = A} table owner page x was is_in e = grind (arith, get_or-set_same, set-set, set-get_or)
 
 -- ---- frames that hold at most one page
 
@@ -248,8 +190,7 @@ pub holds_some : (table : List (List (Option ℕ))) (owner page f : ℕ) → ent
 holds_some table owner page f e =
     let is_in = entry_in table owner page f e in
     let cleared = holders-entry table owner page None f is_in.in_owners is_in.in_pages in
-    let one = rw (is_held f (entry_of table owner page) e) at cleared in
-    omega (arith, one)
+    omega (arith, (rw (is_held f (entry_of table owner page) e) at cleared))
 
 -- two pages of one frame are one
 same_page : (table : List (List (Option ℕ))) (owner page f : ℕ) (row other : ℕ) → holders table f ≤ 1
@@ -258,30 +199,21 @@ same_page : (table : List (List (Option ℕ))) (owner page f : ℕ) (row other :
 same_page table owner page f row other once e also apart =
     let is_in = entry_in table owner page f e in
     let cleared = holders-entry table owner page None f is_in.in_owners is_in.in_pages in
-    let one = rw (is_held f (entry_of table owner page) e) at cleared in
     let more =
     holds_some (with_entry table owner page None) row other f
     (entry-other table owner page None row other is_in apart ∙ also) in
-    omega (arith, one, more)
+    omega (arith, (rw (is_held f (entry_of table owner page) e) at cleared), more)
 
 only_of : (table : List (List (Option ℕ))) (owner page f : ℕ) (found : Option (ℕ × ℕ)) → holders table f ≤ 1
     → entry_of table owner page ≡ Some f → page_from 0 table f ≡ found
     → found ≡ Some (owner, page)
-only_of table owner page f None once e first =
-    absurd (omega (arith, page_from-None 0 table f first, holds_some table owner page f e))
+only_of table owner page f None once e first = grind (arith, page_from-None, holds_some)
 only_of table owner page f (Some found) once e first =
     let is = page_from-Some 0 table f found first in
     let row_is : is.row ≡ found.0 = omega (arith, is.owner_is) in
-    let entry : entry_of table found.0 found.1 ≡ Some f = rw (← row_is) is.entry in
-    let apart : (found.0 ≡ owner → found.1 ≡ page → ⊥) → ⊥ =
-    same_page table owner page f found.0 found.1 once e entry in
-    elim (cases_eq found.0 owner) [
-      | inl same ↦ elim (cases_eq found.1 page) [
-        | inl also ↦ rw (same, also)
-        | inr other ↦ absurd (apart (λ a b. other b))
-      ]
-      | inr other ↦ absurd (apart (λ a b. other a))
-    ]
+    let apart : (found.0 ≡ owner → found.1 ≡ page → ⊥) → ⊥ = same_page table owner page f found.0 found.1 once
+    e (rw (← row_is) is.entry) in
+    grind (arith, cases_eq)
 
 -- a page of a frame that holds no other is its first page
 pub only_page : (table : List (List (Option ℕ))) (owner page f : ℕ) → holders table f ≤ 1
@@ -295,11 +227,7 @@ pub sum_without : (pages : ℕ) (table : List (List (Option ℕ))) (owner page f
     → entry_of table owner page ≡ Some f
     → table_sum pages 1 (with_entry table owner page None) f + place_of pages owner page
     ≡ table_sum pages 1 table f
-sum_without pages table owner page f e =
-    let is_in = entry_in table owner page f e in
-    let cleared = table_sum-entry pages table owner page None f is_in.in_owners is_in.in_pages in
-    let one = rw (is_held f (entry_of table owner page) e) at cleared in
-    omega (arith, one)
+sum_without pages table owner page f e = grind (arith, entry_in, table_sum-entry, is_held)
 
 -- the sum of a frame that holds one page is its place
 pub sum_one : (pages : ℕ) (table : List (List (Option ℕ))) (owner page f : ℕ) → holders table f ≤ 1
@@ -316,8 +244,7 @@ sum_one pages table owner page f once e =
 marks_of : (pages : ℕ) (table : List (List (Option ℕ))) (f : ℕ) (found : Option (ℕ × ℕ))
     → page_from 0 table f ≡ found
     → ltb 0 (table_sum pages 1 table f) ≡ is_some found
-marks_of pages table f None first =
-    le-ltb 0 _ (omega (arith, sum_none pages 1 table f (page_from-None 0 table f first)))
+marks_of pages table f None first = grind (arith, le-ltb, sum_none, page_from-None)
 marks_of pages table f (Some found) first =
     let is = page_from-Some 0 table f found first in
     lt-ltb 0 _ (omega (arith, sum_without pages table is.row found.1 f is.entry))
@@ -332,9 +259,7 @@ row_sum-le : (base most : ℕ) (row : List (Option ℕ)) (f : ℕ) → base + le
     → row_sum base row f ≤ length row * most
 row_sum-le base most [] f le = omega arith
 row_sum-le base most (entry ∷ row) f le =
-    let here : held f entry base ≤ base =
-    elim (cases_Bool (holds f entry)) [ inl is ↦ rw is (omega arith) | inr isnt ↦ rw isnt (omega arith) ] in
-    omega (arith, row_sum-le (base + 1) most row f (omega arith), here, suc-mul (length row) most)
+    grind (arith, cases_Bool, suc-mul, row_sum-le (base + 1) most row f (omega arith))
 
 pub table_sum-le : (pages base most : ℕ) (table : List (List (Option ℕ))) (f : ℕ)
     → AllByRecursion (λ row. length row ≡ pages) table
@@ -343,5 +268,4 @@ table_sum-le pages base most [] f all le = omega arith
 table_sum-le pages base most (row ∷ table) f all le =
     let rows = suc-mul (length table) pages in
     let rest = table_sum-le pages (base + pages) most table f all.1 (omega (arith, rows)) in
-    let here = rw all.0 at (row_sum-le base most row f (omega (arith, rows, all.0))) in
-    omega (arith, rest, here, suc-mul (length table) (pages * most))
+    grind (arith, row_sum-le, suc-mul)

@@ -1,5 +1,5 @@
 -- What the calls of the table keep and return.
-use Rattle.std.proofs.Common.{◌≡◌, ℕ, zero, suc, map, ◌<◌, ◌≤◌, ◌+◌, ◌-◌, ◌*◌, ◌/◌, ◌%◌, ◌^◌, Bool, false, ltb, List, [], ◌∷◌, length, get_or, set, replicate, Option, Some, None, refl, sym, ap, ◌∙◌, subst, inl, inr, arith}
+use Rattle.std.proofs.Common.{◌≡◌, ℕ, zero, suc, map, ◌<◌, ◌≤◌, ◌+◌, ◌-◌, ◌*◌, ◌/◌, ◌%◌, ◌^◌, Bool, false, ltb, List, [], ◌∷◌, length, get_or, set, replicate, Option, Some, None, refl, sym, ap, ◌∙◌, subst, arith}
 use Rattle.std.specs.Prelude.{IfSome, find, is_some}
 use Rattle.std.specs.List.{AllByRecursion, range_with_len}
 use Rattle.std.proofs.lemmas.Bool.{cases_eq, eq-eqb, ne_eqb, le-ltb}
@@ -24,8 +24,7 @@ no_frame = None
 -- one of at most 2^20 frames has a number below 2^20
 pub below_most : (now : Option ℕ) (frames : ℕ) → IfSome now (λ frame. frame < frames) → frames ≤ 2 ^ 20
     → IfSome now (λ frame. frame < 2 ^ 20)
-below_most None frames below le = tt
-below_most (Some frame) frames below le = omega (arith, below, le)
+below_most now frames below le = grind arith
 
 -- codes of no frame
 pub codes_of_none : (n : ℕ) → map frame_of_code (replicate n 0) ≡ replicate n no_frame
@@ -72,8 +71,7 @@ lowest_of t sums first count found are le finds =
 -- ---- the page of a frame
 
 none_of : {X : Type 0} (o : Option X) → is_some o ≡ false → None ≡ o
-none_of None e = refl
-none_of (Some x) e = cc
+none_of o e = grind arith
 
 -- a sum of 0
 pub page_none : (t : TableValue) (sums : List ℕ) (frame : ℕ) → AreSumsOf t sums → frame < t.frames
@@ -95,22 +93,12 @@ page_of_found : (t : TableValue) (sums : List ℕ) (frame : ℕ) (found : Option
     → frame < t.frames → holders t.rows frame ≤ 1
     → (get_or sums frame 0 ≡ 0 → ⊥) → page_from 0 t.rows frame ≡ found
     → IsPageOf t (get_or sums frame 0) frame
-page_of_found t sums frame None are lt once some first =
-    absurd (some (are.each frame lt ∙ sum_none t.pages 1 t.rows frame (page_from-None 0 t.rows frame first)))
+page_of_found t sums frame None are lt once some first = grind (arith, sum_none, page_from-None)
 page_of_found t sums frame (Some found) are lt once some first =
     let is = page_from-Some 0 t.rows frame found first in
     let length_is = row_length t.pages t.rows is.row are.table.rows is.in_owners in
-    let in_row : found.1 < t.pages = omega (arith, is.in_pages, length_is) in
-    let sum_is : get_or sums frame 0 - 1 ≡ is.row * t.pages + found.1 =
-    omega (arith, are.each frame lt, sum_one t.pages t.rows is.row found.1 frame once is.entry) in
-    record {
-      owner = found.0;
-      page = found.1;
-      first = first;
-      owner_is = rw (sum_is, div-mul-add is.row t.pages found.1 in_row) (omega (arith, is.owner_is));
-      page_is = ap (λ n. n % t.pages) sum_is ∙ mod-mul-add is.row t.pages found.1 in_row;
-      small = omega (arith, is.owner_is, is.in_owners, are.table.owners);
-    }
+    let sum_is : get_or sums frame 0 - 1 ≡ is.row * t.pages + found.1 = grind (arith, sum_one) in
+    grind (arith, div-mul-add, mod-mul-add)
 
 -- that page as the code computes it
 pub page_told : (t : TableValue) (sums : List ℕ) (frame sum : ℕ) → AreSumsOf t sums → frame < t.frames
@@ -137,43 +125,24 @@ leave_at t sums owner page (Some frame) are frames in_frames e = record {
 
 pub can_leave : (t : TableValue) (sums : List ℕ) (owner page : ℕ) → AreSumsOf t sums → t.frames ≡ length sums
     → IfSome (entry_of t.rows owner page) (CanLeave sums (place_of t.pages owner page))
-can_leave t sums owner page are frames =
-    leave_at t sums owner page (entry_of t.rows owner page) are frames (are.table.mapped owner page) refl
+can_leave t sums owner page are frames = grind (arith, leave_at)
 
 -- the sums after a frame left, and after one joined
 left_sum : (sums : List ℕ) (was : Option ℕ) (place f : ℕ) → IfSome was (CanLeave sums place)
     → get_or (left sums was place) f 0 + held f was place ≡ get_or sums f 0
-left_sum sums None place f can = omega arith
-left_sum sums (Some frame) place f can = elim (cases_eq frame f) [
-  | inl same ↦ rw (same, eq-eqb f f refl) (
-      let lt : f < length sums = omega (arith, can.frame_in) in
-      let le : place ≤ get_or sums f 0 = subst (λ (n : ℕ). place ≤ get_or sums n 0) same can.among in
-      rw (get_or-set_same sums f (get_or sums f 0 - place) 0 lt) (omega arith))
-  | inr other ↦
-      rw (ne_eqb frame f other)
-      (omega (arith, get_or-set_other sums frame f (get_or sums frame 0 - place) 0 (λ e. other (sym e))))
-]
+left_sum sums was place f can = grind (arith, cases_eq, eq-eqb, get_or-set_same, ne_eqb, get_or-set_other)
 
 joined_sum : (sums : List ℕ) (now : Option ℕ) (place f : ℕ) → IfSome now (λ frame. frame < length sums)
     → get_or (joined sums now place) f 0 ≡ get_or sums f 0 + held f now place
-joined_sum sums None place f in_frames = omega arith
-joined_sum sums (Some frame) place f in_frames = elim (cases_eq frame f) [
-  | inl same ↦ rw (same, eq-eqb f f refl) (
-      let lt : f < length sums = omega (arith, in_frames) in
-      get_or-set_same sums f (get_or sums f 0 + place) 0 lt)
-  | inr other ↦
-      rw (ne_eqb frame f other)
-      (omega (arith, get_or-set_other sums frame f (get_or sums frame 0 + place) 0 (λ e. other (sym e))))
-]
+joined_sum sums now place f in_frames =
+    grind (arith, cases_eq, eq-eqb, get_or-set_same, ne_eqb, get_or-set_other)
 
 pub length-left : (sums : List ℕ) (was : Option ℕ) (place : ℕ) → length (left sums was place) ≡ length sums
-length-left sums None place = refl
-length-left sums (Some frame) place = length-set sums frame _
+length-left sums was place = grind (arith, length-set)
 
 pub length-joined : (sums : List ℕ) (now : Option ℕ) (place : ℕ)
     → length (joined sums now place) ≡ length sums
-length-joined sums None place = refl
-length-joined sums (Some frame) place = length-set sums frame _
+length-joined sums now place = grind (arith, length-set)
 
 -- the sum of each frame after an entry changed
 new_sum : (t : TableValue) (sums : List ℕ) (owner page : ℕ) (now : Option ℕ) (f : ℕ) → AreSumsOf t sums
@@ -184,11 +153,7 @@ new_sum : (t : TableValue) (sums : List ℕ) (owner page : ℕ) (now : Option �
     ≡ table_sum t.pages 1 (with_entry t.rows owner page now) f
 new_sum t sums owner page now f are frames in_owners in_pages in_frames =
     let is_in = page_in t.pages t.rows owner page are.table.rows in_owners in_pages in
-    let entry = table_sum-entry t.pages t.rows owner page now f is_in.in_owners is_in.in_pages in
-    let gone =
-    left_sum sums (entry_of t.rows owner page) (place_of t.pages owner page) f
-    (can_leave t sums owner page are frames) in
-    omega (arith, entry, gone, are.each f in_frames)
+    grind (arith, table_sum-entry, left_sum, can_leave)
 
 -- a sum of a table fits
 sum_fits : (t : TableValue) (rows : List (List (Option ℕ))) (f : ℕ) → IsTable t → length rows ≤ 64
@@ -197,8 +162,7 @@ sum_fits : (t : TableValue) (rows : List (List (Option ℕ))) (f : ℕ) → IsTa
 sum_fits t rows f table owners all =
     let most = 1 + 64 * 2 ^ 16 in
     let sum = table_sum-le t.pages 1 most rows f all (omega (arith, mul-le _ _ _ _ owners table.pages)) in
-    let row : t.pages * most ≤ 2 ^ 16 * most = omega (arith, table.pages) in
-    omega (arith, sum, mul-le _ _ _ _ owners row)
+    grind (arith, mul-le)
 
 -- a place may be added to the sum of the new frame
 pub can_join : (t : TableValue) (sums : List ℕ) (owner page : ℕ) (now : Option ℕ) → AreSumsOf t sums
@@ -208,7 +172,6 @@ pub can_join : (t : TableValue) (sums : List ℕ) (owner page : ℕ) (now : Opti
     (place_of t.pages owner page))
 can_join t sums owner page None are frames in_owners in_pages in_frames = tt
 can_join t sums owner page (Some frame) are frames in_owners in_pages in_frames =
-    let is_in = page_in t.pages t.rows owner page are.table.rows in_owners in_pages in
     let sum =
     rw (eq-eqb frame frame refl) at
     (new_sum t sums owner page (Some frame) frame are frames in_owners in_pages in_frames) in
@@ -218,12 +181,7 @@ can_join t sums owner page (Some frame) are frames in_owners in_pages in_frames 
     (row_set t.pages t.rows owner (set (get_or t.rows owner []) page (Some frame)) are.table.rows
     (length-set (get_or t.rows owner []) page (Some frame)
     ∙ row_length t.pages t.rows owner are.table.rows in_owners)) in
-    record {
-      frame_in =
-          omega
-          (arith, length-left sums (entry_of t.rows owner page) (place_of t.pages owner page), in_frames);
-      fits = omega (arith, sum, fits);
-    }
+    grind (arith, length-left)
 
 -- ---- the table after a changed entry
 
@@ -235,16 +193,7 @@ mapped_at : (frames : ℕ) (rows : List (List (Option ℕ))) (owner page : ℕ) 
     → IfSome (entry_of rows other_owner other_page) (λ frame. frame < frames)
     → IfSome (entry_of (with_entry rows owner page now) other_owner other_page) (λ frame. frame < frames)
 mapped_at frames rows owner page now other_owner other_page is_in in_frames was =
-    let InFrames : Option ℕ → Type 0 = λ entry. IfSome entry (λ frame. frame < frames) in
-    elim (cases_eq other_owner owner) [
-      | inl same ↦ elim (cases_eq other_page page) [
-        | inl also ↦
-            subst InFrames (let e : now ≡ entry_of (with_entry rows owner page now) other_owner other_page =
-            rw (same, also) (sym (entry-same rows owner page now is_in)) in e) in_frames
-        | inr other ↦ rw (entry-other rows owner page now other_owner other_page is_in (λ a b. other b)) was
-      ]
-      | inr other ↦ rw (entry-other rows owner page now other_owner other_page is_in (λ a b. other a)) was
-    ]
+    grind (arith, cases_eq, entry-same, entry-other)
 
 -- the numbers of a table with another entry
 pub is_table-set : (t : TableValue) (owner page : ℕ) (now : Option ℕ) → IsTable t → owner < length t.rows
@@ -278,7 +227,6 @@ are_sums-set sums pages rows owner page now are in_owners in_pages in_frames =
     let gone = left sums (entry_of rows owner page) place in
     let gone_len : length gone ≡ length sums = length-left sums (entry_of rows owner page) place in
     let new_len : length (joined gone now place) ≡ length sums = length-joined gone now place ∙ gone_len in
-    let new = with_entry rows owner page now in
     record {
       table = rw new_len (is_table-set t owner page now are.table in_owners in_pages in_frames);
       each = λ f lt.
@@ -311,8 +259,7 @@ empty_row_sum base (suc n) f = omega (arith, empty_row_sum (base + 1) n f)
 empty_sum : (pages base owners f : ℕ)
     → table_sum pages base (replicate owners (replicate pages no_frame)) f ≡ 0
 empty_sum pages base zero f = refl
-empty_sum pages base (suc owners) f =
-    omega (arith, empty_row_sum base pages f, empty_sum pages (base + pages) owners f)
+empty_sum pages base (suc owners) f = grind (arith, empty_row_sum, empty_sum pages (base + pages) owners f)
 
 -- no frame of the empty table holds a page
 pub empty_first : (owners pages f : ℕ) → page_from 0 (replicate owners (replicate pages None)) f ≡ None
@@ -329,22 +276,6 @@ pub are_sums-empty : (sums : List ℕ) (owners pages : ℕ) (rows : List (List (
 are_sums-empty sums owners pages rows frames sums_are rows_are small some_pages pages_le owners_le =
     let len : length sums ≡ frames = ap length sums_are ∙ length-replicate frames 0 in
     record {
-      table = record {
-        frames = omega (arith, len);
-        some_pages = some_pages;
-        pages = pages_le;
-        owners =
-            let n : length rows ≡ owners = rw rows_are (length-replicate owners (replicate pages no_frame)) in
-            omega (arith, n);
-        rows = rw rows_are (empty_rows owners pages);
-        mapped =
-            λ owner page.
-            MatchOption-from_none _ _ (ap (λ (r : List (List (Option ℕ))). entry_of r owner page)
-            rows_are ∙ empty_entry owners pages owner page);
-      };
-      each =
-          λ f lt. ap (λ (n : List ℕ). get_or n f 0) sums_are
-          ∙ (get_or-replicate frames f 0 0 (omega (arith, lt, len))
-          ∙ sym (ap (λ (r : List (List (Option ℕ))). table_sum pages 1 r f) rows_are
-          ∙ empty_sum pages 1 owners f));
+      table = grind (arith, length-replicate, replicate, empty_rows, MatchOption-from_none, empty_entry);
+      each = grind (arith, get_or-replicate, empty_sum);
     }

@@ -1,3 +1,5 @@
 pub mod FrameSets
 pub mod Pages
 pub mod Places
+pub mod Kernel
+pub mod Blocks

@@ -48,24 +48,16 @@ is_missing of parts index number p lt here is within rising placed more = record
     at : (d : PartEndsValue) → (get_or parts index d).number ≡ number
     at d = ap (λ (q : PartEndsValue). q.number) (get_or_default parts index d p lt ∙ sym here) ∙ sym is
 
--- all places have theirs
-pub none_missing : (of : ℕ) (parts : List PartEndsValue) → AreWithin of parts
-    → ArePlacedBelow (length parts) parts → (d : PartEndsValue) → length parts ≤ of
-none_missing of parts within placed d = elim (cases_lt of (length parts)) [
-  | inl less ↦ absurd (omega (arith, placed of d less, (within of d less).1))
-  | inr enough ↦ enough
-]
-
 -- all are there once
 pub all_placed : (of : ℕ) (parts : List PartEndsValue) → AreWithin of parts
     → ArePlacedBelow (length parts) parts → of ≤ length parts → AreInPlace of parts
 all_placed of parts within placed enough =
     let count : length parts ≡ of = omega (arith, few parts within placed, enough) in
-    record {
-      count = count;
-      numbers = subst (λ (n : ℕ). ArePlacedBelow n parts) count placed;
-    }
+    record { count = count; numbers = rw count at placed }
   where
     few : (ps : List PartEndsValue) → AreWithin of ps → ArePlacedBelow (length ps) ps → length ps ≤ of
     few [] within placed = omega arith
-    few (p ∷ ps) within placed = none_missing of (p ∷ ps) within placed p
+    few (p ∷ ps) within placed = elim (cases_lt of (length (p ∷ ps))) [
+      | inl less ↦ absurd (omega (arith, placed of p less, (within of p less).1))
+      | inr enough ↦ enough
+    ]

@@ -15,7 +15,7 @@ use Rattle.hp_schedules.specs.Schedules.{Setting}
 use Rattle.hp_explore.specs.Faults.{FillsPart, IsCause, IsCausePartWithin}
 use Rattle.hp_search.specs.Ends.{IsMore}
 use Rattle.hp_search.specs.Faults.{IsFaultOf, IsFaultWith, IsFull}
-use Rattle.hp_names.specs.Named.{named_in, named_of}
+use Rattle.hp_scripts.specs.Named.{named_in, named_of}
 use Rattle.hp_search.specs.Holding.{HoldsAfter, InScenario}
 use Rattle.hp_search.specs.declared.lab_fault.LabFault.{LabFault}
 use Rattle.hp_search.specs.declared.lab_fault.LabFault.TheVariants as lab
@@ -80,28 +80,12 @@ loosely n input setup limit ended text found h =
       };
     }
 
--- by how many first calls the parts go
-pub calls_known : (processors scripts parts of calls : ℕ) → processors ≡ scripts → parts ≡ of
-    → (parts < 2 → calls ≡ 0) → (processors < 2 → calls ≡ 0)
-    → (2 ≤ parts → 2 ≤ processors → 64 * parts ≤ processors ^ calls)
-    → ((d : ℕ) → d < calls → processors ^ d < 64 * parts) → IsCallsFor scripts of calls
-calls_known processors scripts parts of calls all is one alone enough fewest =
-    subst (λ (n : ℕ). IsCallsFor n of calls) all
-    (subst (λ (n : ℕ). IsCallsFor processors n calls) is
-    (record { one = one; alone = alone; enough = enough; fewest = fewest }))
-
 -- why a part is not searched
 pub part_cause : (n : NumberValue) (limit : ℕ) (g : Setting) (calls : ℕ) (fault : ExploreFault)
     → IsCallsFor (length g.scripts) n.of calls → IsCausePartWithin g (part_by n calls) limit fault
     → IsPartCause n limit g fault
 part_cause n limit g calls explore.HistoryFull by cause = (calls, by, cause)
 part_cause n limit g calls explore.OutOfMemory by cause = tt
-
-refused : (input : List ℕ) → (IsUtf8 input → ⊥) → named_in input ≡ Err NotJson
-unfolding named_in
-refused input none =
-    ap (λ (r : Result Data ScenarioFault). r >>= named_of)
-    (json_refused input (λ text. absurd (none text)))
 
 stopped_weaker : (P Q : Setting → Type 0) (input : List ℕ) (setup : ℕ) → ((g : Setting) → P g → Q g)
     → InScenario input setup (HoldsAfter P setup) → InScenario input setup (HoldsAfter Q setup)
@@ -121,31 +105,20 @@ stopped_weaker P Q input setup f h = record {
 -- what fills the history in a part's search fills it in that of all
 pub part_fault : (n : NumberValue) (input : List ℕ) (setup limit : ℕ) (fault : LabFault)
     → IsFaultWith (IsPartCause n limit) input setup fault → IsFaultOf input setup fault
-part_fault n input setup limit lab.NotJson h = h
-part_fault n input setup limit lab.BadShape h = h
-part_fault n input setup limit (lab.Layout f) h = h
-part_fault n input setup limit (lab.BadLine line) h = h
-part_fault n input setup limit (lab.NotForScript line why) h = h
-part_fault n input setup limit (lab.PastLayout k) h = absurd h
 part_fault n input setup limit (lab.HistoryFull needed) h =
     stopped_weaker (IsFull (IsPartCause n limit) needed) (IsFull IsCause needed) input setup
     (λ g x. ((x.0.2.place, x.0.2.call), x.1)) h
-part_fault n input setup limit lab.OutOfMemory h = tt
+part_fault n input setup limit fault h = h
 
 -- and a schedule of the part does
 pub full_part : (n : NumberValue) (input : List ℕ) (setup limit : ℕ) (fault : LabFault)
     → IsFaultWith (IsPartCause n limit) input setup fault
     → IsFullPart n input setup limit fault
-full_part n input setup limit lab.NotJson h = tt
-full_part n input setup limit lab.BadShape h = tt
-full_part n input setup limit (lab.Layout f) h = tt
-full_part n input setup limit (lab.BadLine line) h = tt
-full_part n input setup limit (lab.NotForScript line why) h = tt
-full_part n input setup limit (lab.PastLayout k) h = tt
 full_part n input setup limit (lab.HistoryFull needed) h =
     stopped_weaker (IsFull (IsPartCause n limit) needed) (FillsPartOf n limit) input setup (λ g x. x.0) h
-full_part n input setup limit lab.OutOfMemory h = tt
+full_part n input setup limit fault h = tt
 
 -- bytes that are no text are no scenario
 pub no_text : (input : List ℕ) (setup : ℕ) → (IsUtf8 input → ⊥) → IsFaultOf input setup lab.NotJson
-no_text input setup none = (NotJson, refused input none, refl)
+unfolding named_in
+no_text input setup none = (NotJson, rw (json_refused input (λ text. absurd (none text))), refl)

@@ -12,8 +12,7 @@ pub end_lines_push : (names : List (List ℕ)) (g : Setting) (number : ℕ) (end
     → end_lines names g number (ends ++ e ∷ [])
     ≡ end_lines names g number ends ++ (end_line names g (number + length ends) e ++ newline)
 end_lines_push names g number [] e =
-    append-nil (end_line names g number e ++ newline)
-    ∙ ap (λ (n : ℕ). end_line names g n e ++ newline) (sym (add-zero number))
+    rw (append-nil, add-zero)
 end_lines_push names g number (x ∷ ends) e =
     let front : List ℕ = end_line names g number x ++ newline in
     let next : number + 1 + length ends ≡ number + length (x ∷ ends) = omega arith in
@@ -31,13 +30,7 @@ pub end_written : (names : List (List ℕ)) (g : Setting) (ends : List Ending) (
     → new ≡ now ++ (end_line names g (index + 1) e ++ newline)
     → new ++ end_lines names g (index + 1 + 1) (drop (index + 1) ends) ≡ whole
 end_written names g ends index e now new whole lt is so_far more =
-    let line : List ℕ = end_line names g (index + 1) e ++ newline in
-    let rest : List ℕ = end_lines names g (index + 1 + 1) (drop (index + 1) ends) in
-    let front : drop index ends ≡ e ∷ drop (index + 1) ends =
-    drop_more ends index e lt ∙ (ap (λ (x : Ending). x ∷ drop (index + 1) ends) (sym is)) in
-    ap (λ (l : List ℕ). l ++ rest) more
-    ∙ (append_assoc now line rest
-    ∙ (ap (λ (es : List Ending). now ++ end_lines names g (index + 1) es) (sym front) ∙ so_far))
+    rw (more, append_assoc now) (rw (drop_more ends index e lt, ← is) at so_far)
 
 -- an end more in a part
 pub begun_lines_push : (names : List (List ℕ)) (g : Setting) (s : SearchValue) (number named : ℕ)
@@ -47,6 +40,4 @@ pub begun_lines_push : (names : List (List ℕ)) (g : Setting) (s : SearchValue)
 begun_lines_push names g s number named ends e =
     let head : List ℕ = head_line s number named ++ newline in
     let next : 1 + length ends ≡ length ends + 1 = omega arith in
-    ap (λ (l : List ℕ). head ++ l) (end_lines_push names g 1 ends e)
-    ∙ (sym (append_assoc head (end_lines names g 1 ends) (end_line names g (1 + length ends) e ++ newline))
-    ∙ ap (λ (n : ℕ). (head ++ end_lines names g 1 ends) ++ (end_line names g n e ++ newline)) next)
+    rw (end_lines_push names g 1 ends e, next) (sym (append_assoc head (end_lines names g 1 ends) _))

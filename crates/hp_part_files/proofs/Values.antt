@@ -31,11 +31,6 @@ pub some_of : {A : Type 0} (fault : ScenarioFault) (o : Option A) (x : A) → or
 some_of fault None x is = cc
 some_of fault (Some y) x is = cc
 
--- the head that a text is
-pub head_known : (text : List ℕ) (v : Value) (h : HeadValue) → Some (view v) ≡ json_of text
-    → Some h ≡ head_from (view v) → option_and_then head_from (json_of text) ≡ Some h
-head_known text v h json head = ap (option_and_then head_from) (sym json) ∙ sym head
-
 -- the head that a value with all its keys is
 pub head_read : (d : Data) (number of wide calls setup ends : ℕ) (scenario : List ℕ)
     → Some number ≡ number_at (codes "part") d → Some of ≡ number_at (codes "of") d

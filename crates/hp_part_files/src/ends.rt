@@ -71,7 +71,7 @@ fn end_at(
     if !part.is_of(processors, path.records()) {
         return Ok(None);
     }
-    if !is_over(alloc, path, processors)? {
+    if !is_over(path, processors) {
         return Ok(None);
     }
     let outcome = path.outcome(alloc, processors)?;

@@ -14,3 +14,6 @@ pub mod Scans
 mod Values
 pub mod Walks
 pub mod WellPlaced
+pub mod Counting
+pub mod PlacedHeads
+pub mod PlacedRows

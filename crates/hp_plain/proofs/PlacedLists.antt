@@ -7,13 +7,13 @@ use Rattle.hp_units.specs.LayoutParts.{LayoutParts}
 use Rattle.hp_units.specs.Memory.{FreeAreas, FreeFrames, cached_list, class_index, class_numbered, free_list, pool_index}
 use Rattle.hp_units.specs.FreeAreas.{is_on}
 use Rattle.hp_units.specs.Placement.{IsBlockOf, cached_places, class_at, free_places, list_places}
-use Rattle.hp_lemmas.proofs.Lists.{class_numbered-index}
-use Rattle.hp_lemmas.proofs.Places.{class_index-lt}
-use Rattle.hp_lemmas.proofs.Pools.{pool_index-lt}
+use Rattle.hp_units.proofs.ListEdits.{class_numbered-index}
+use Rattle.hp_units.proofs.Places.{class_index-lt}
+use Rattle.hp_units.proofs.Pools.{pool_index-lt}
 use Rattle.hp_plain.specs.Names.{Class, Pool, NuPool, NmPool, MmPool, Row}
 use Rattle.hp_units.specs.declared.rows.Kind.{Kind}
-use Rattle.hp_placement.specs.Placing.{AreListsPlaced, AreMarked, ArePoolsPlaced, IsListPlaced, IsPoolPlaced, IsTwice, pool_numbered}
-use Rattle.hp_placement.proofs.Counting.{SoFar, marked_as, so_far_all, so_far_more, so_far_twice, total-lists, total-sum, twice_as}
+use Rattle.hp_plain.specs.Placing.{AreListsPlaced, AreMarked, ArePoolsPlaced, IsListPlaced, IsPoolPlaced, IsTwice, pool_numbered}
+use Rattle.hp_plain.proofs.Counting.{SoFar, marked_as, so_far_all, so_far_more, so_far_twice, total-lists, total-sum, twice_as}
 
 -- ---- the lists of classes and orders, by number
 

@@ -8,9 +8,9 @@ use Rattle.hp_units.specs.InLayout.{ArePagesOf}
 use Rattle.hp_units.specs.Memory.{Pages, entry_of}
 use Rattle.hp_units.specs.Pages.{frame_at, holds, words_at}
 use Rattle.hp_units.specs.Placement.{IsPage, mapped_places}
-use Rattle.hp_lemmas.proofs.Tables.{row_length}
-use Rattle.hp_placement.specs.Placing.{AreMarked, AreOwnersPages, ArePages, IsTwice}
-use Rattle.hp_placement.proofs.Counting.{SoFar, marked_as, so_far_all, so_far_more, so_far_twice, total-sum, twice_as}
+use Rattle.hp_units.proofs.Tables.{row_length}
+use Rattle.hp_plain.specs.Placing.{AreMarked, AreOwnersPages, ArePages, IsTwice}
+use Rattle.hp_plain.proofs.Counting.{SoFar, marked_as, so_far_all, so_far_more, so_far_twice, total-sum, twice_as}
 
 -- an entry past the last page, or past the last owner, is none
 past_page : {A : Type 0} (table : List (List (Option A))) (owner page pages : ℕ)

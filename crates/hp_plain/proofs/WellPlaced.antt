@@ -4,7 +4,7 @@ use Rattle.hp_units.specs.LayoutParts.{LayoutParts}
 use Rattle.hp_units.specs.InLayout.{IsMemoryOf}
 use Rattle.hp_units.specs.Memory.{FreeAreas, Memory}
 use Rattle.hp_units.specs.Placement.{IsWellPlaced, cached_places, free_places, mapped_places, places_of}
-use Rattle.hp_placement.specs.Placing.{AreKinds, AreListsJoined, AreListsPlaced, AreMarked, ArePages, ArePlacedOnce, ArePoolsPlaced, AreRows, IsKernelPlaced, IsTwice, kernel_counts, mark_of, unplugged}
+use Rattle.hp_plain.specs.Placing.{AreKinds, AreListsJoined, AreListsPlaced, AreMarked, ArePages, ArePlacedOnce, ArePoolsPlaced, AreRows, IsKernelPlaced, IsTwice, kernel_counts, mark_of, unplugged}
 
 -- ---- the places of a state, marked one after another
 

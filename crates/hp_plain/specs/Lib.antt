@@ -2,3 +2,5 @@ pub mod Asked
 pub mod Image
 pub mod Names
 pub mod Plans
+pub mod PlacingNames
+pub mod Placing

@@ -1,17 +1,17 @@
 //! Tests the parts of a state one by one: each must lie where it may, and none of its frames may be
-//! marked yet. hp_placement has the tests of single blocks, frames and pages.
+//! marked yet. `free`, `cached`, `kernel` and `placed_pages` test single blocks, frames and pages.
 ghost use Rattle.std.specs.Prelude.{◌≡◌, ◌+◌, ◌*◌, ◌<◌, [], IfOk, MatchBool, count_by, length, slice_index_or, ℕ};
 ghost use Rattle.hp_units.specs.Arithmetic.{frame_count};
 ghost use Rattle.hp_units.specs.InLayout.{AreFreeAreasOf, ArePagesOf};
 ghost use Rattle.hp_units.specs.Pages.{holds};
 ghost use Rattle.hp_units.specs.Placement.{cached_places, free_places, mapped_places};
-ghost use Rattle.hp_placement.specs.Placing.{AreListsJoined, AreListsPlaced, AreMarked, AreOwnersPages, ArePages, ArePoolsPlaced, IsTwice};
+ghost use Rattle.hp_plain.specs.Placing.{AreListsJoined, AreListsPlaced, AreMarked, AreOwnersPages, ArePages, ArePoolsPlaced, IsTwice};
 
 use crate::areas::Areas;
 use crate::blocks::Blocks;
 use crate::frames::FreeFrames;
 use crate::pages::Pages;
-use hp_placement::{Heads, Marks, place_list, place_page, place_pool, pool_numbered};
+use crate::{Heads, Marks, place_list, place_page, place_pool, pool_numbered};
 use hp_units::{Class, Cpu, Layout, Order, Owner, Page};
 use std::alloc::{AllocError, Global};
 

@@ -1,6 +1,6 @@
 //! Parses a wanted line.
 ghost use Rattle.std.specs.Prelude.{◌≡◌, IfOk, OnOk, Some, map, option_map};
-ghost use Rattle.hp_numbers.specs.NumberWords.{number_of};
+ghost use Rattle.hp_units.specs.NumberWords.{number_of};
 ghost use Rattle.hp_questions.specs.declared.wanted.EndLine.TheVariants.{Answer};
 ghost use Rattle.hp_questions.specs.declared.wanted.Wanted.TheVariants.{Has, Lacks};
 ghost use Rattle.hp_scenario.specs.Words.{words_of};

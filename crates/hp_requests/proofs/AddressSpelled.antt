@@ -10,7 +10,7 @@ use Rattle.std.proofs.lemmas.Bool.Decides.{Decides-eqb}
 use Rattle.std.proofs.lemmas.Slice.Eq.{starts_is}
 use Rattle.hp_requests.specs.Laws.{AddressesAreSpelled}
 use Rattle.hp_requests.specs.Words.{address_of, hex_after, hex_number}
-use Rattle.hp_numbers.proofs.NumbersSpelled.{chosen}
+use Rattle.hp_units.proofs.NumbersSpelled.{chosen}
 
 -- hexadecimal digits after a number make the number that they write after it
 digits_make : (number : ℕ) (bytes : List ℕ) → AllDigits 16 bytes

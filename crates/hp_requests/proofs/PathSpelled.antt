@@ -17,9 +17,9 @@ use Rattle.std.proofs.lemmas.Str.Parse.{digit_from_value}
 use Rattle.hp_requests.specs.Files.{block_file_named, file_at, file_of_block, halves_of}
 use Rattle.hp_requests.specs.Laws.{BlockPathsAreSpelled, block_path, file_name}
 use Rattle.hp_requests.specs.Names.{File, BlockSizeBytes, Buddyinfo, Probe, AutoOnlineBlocks, OfBlock, BlockFile, StateFile, OnlineFile, ZonesFile, RemovableFile}
-use Rattle.hp_numbers.specs.NumberWords.{number_of}
+use Rattle.hp_units.specs.NumberWords.{number_of}
 use Rattle.hp_requests.specs.Words.{block_named}
-use Rattle.hp_numbers.proofs.NumbersSpelled.{chosen, is_spelled, spelled_is}
+use Rattle.hp_units.proofs.NumbersSpelled.{chosen, is_spelled, spelled_is}
 
 -- ---- the slash
 

@@ -3,7 +3,7 @@ use Rattle.std.specs.Prelude.{ℕ, ◌+◌, ◌*◌, ◌-◌, ◌&&◌, ◌==◌
 use Rattle.std.specs.Char.{digit_value}
 use Rattle.std.specs.List.{starts_with}
 use Rattle.std.specs.Option.{option_and_then}
-use Rattle.hp_numbers.specs.NumberWords.{number_of}
+use Rattle.hp_units.specs.NumberWords.{number_of}
 
 -- the memory block whose directory has this name: `memory` and its number (Linux guide: memoryXXX)
 unfoldable pub block_named : List ℕ → Option ℕ

@@ -1,13 +1,11 @@
 -- Lines that were taken one after another are those of the scenario.
-use Rattle.std.proofs.Common.{◌≡◌, ℕ, ◌<◌, List, [], ◌∷◌, ◌++◌, length, codes, Ok, refl, sym, ap, ◌∙◌, arith}
+use Rattle.std.proofs.Common.{◌≡◌, ℕ, ◌<◌, List, [], ◌∷◌, ◌++◌, length, Ok, refl, ap, ◌∙◌, arith}
 use Rattle.json.specs.Token.{Token}
-use Rattle.json.specs.Lex.{tokens}
 use Rattle.hp_scenario.specs.Calls.{AreAll, Ends, HasPassed, IsOpened, Passes}
 use Rattle.hp_scenario.specs.Scenario.{Script, lines_from, scenario_in}
-use Rattle.hp_scenario.specs.Usual.{AreTexts, strings_then}
+use Rattle.hp_scenario.specs.Usual.{strings_then}
 use Rattle.hp_scenario.specs.declared.calls.Calls.{Calls}
 use Rattle.hp_scenario.specs.declared.lines.Line.{Line}
-use Rattle.hp_scenario.proofs.LineLoop.{with_names}
 use Rattle.hp_scenario.proofs.UsualForm.{one_more_line, one_more_string, scenario_is, scenario_read}
 
 -- no line yet
@@ -22,8 +20,7 @@ one_passed start now next lines line h one =
     let script : Script = record { names = now.names.keys; lines = lines } in (
       h.0 ++ one.0 ∷ [],
       h.1 ∙ ap (strings_then h.0) one.1 ∙ one_more_string h.0 one.0 next.reader,
-      one_more_line 1 (record { names = start.names.keys; lines = [] }) script h.0 one.0
-          (with_names next.names.keys line) h.2 one.2,
+      one_more_line _ _ _ _ _ _ h.2 one.2,
       one.3 ∙ h.3,
     )
 
@@ -43,16 +40,14 @@ all_read bytes start new lines opened all =
     let b = opened.1.0 in
     let f = start.reader in
     let script : Script = record { names = new.names.keys; lines = lines } in
-    let texts : AreTexts passed.0 f (Token.end_object ∷ []) = passed.1 ∙ ap (strings_then passed.0) over.0 in
-    let read : lines_from 1 (record { names = start.names.keys; lines = [] }) passed.0 ≡ Ok script =
-    passed.2 ∙ ap (λ (ns : List (List ℕ)). Ok (record { names = ns; lines = lines })) (sym over.1) in
-    let from_none = rw opened.2 at read in
-    let whole =
-    scenario_read start.layout script (tokens bytes) (Token.key (codes "layout") ∷ b) b
-    (Token.key (codes "calls") ∷ Token.begin_array ∷ f) f
-    (Token.end_object ∷ []) opened.1.1 refl opened.1.2 refl (passed.0, texts, from_none) refl in
-    scenario_is bytes bytes (record { layout = new.layout; names = new.names.keys; lines = lines })
-    opened.0 refl (rw (over.2 ∙ passed.3) whole)
+    let read : lines_from 1 (record { names = start.names.keys; lines = [] }) passed.0 ≡ Ok script = cc in
+    let whole = scenario_read _ _ _ _ _ _ _ _ opened.1.1 refl opened.1.2 refl (
+      passed.0,
+      (passed.1 ∙ ap
+          (strings_then passed.0) over.0),
+      (rw opened.2 at read),
+    ) refl in
+    scenario_is _ _ _ opened.0 refl (rw (over.2 ∙ passed.3) whole)
 
 -- and so are the same lines as they are kept
 pub with_all : (bytes : List ℕ) (start new : Calls) (lines kept : List Line) → IsOpened bytes start

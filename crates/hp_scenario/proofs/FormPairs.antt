@@ -1,9 +1,9 @@
 -- The numbers of a layout, two by two.
-use Rattle.std.proofs.Common.{◌≡◌, ℕ, List, codes, Option, Some, None, refl, sym}
+use Rattle.std.proofs.Common.{◌≡◌, ℕ, List, codes, Option, Some, arith}
 use Rattle.hp_units.specs.LayoutParts.{LayoutParts}
 use Rattle.hp_units.specs.declared.rows.Boot.{Boot}
 use Rattle.serde_json.specs.Data.{Data}
-use Rattle.hp_scenario.specs.Form.{◌>>=◌, number_at, pair_at, parts_with}
+use Rattle.hp_scenario.specs.Form.{◌>>=◌, pair_at, parts_with}
 
 abbrev pub paired : Option ℕ → Option ℕ → Option (ℕ × ℕ)
 paired a b = do
@@ -61,17 +61,7 @@ parts_of_numbers boot a b c d e f g h i j = do
 by_pairs : (boot : List Boot) (a b c d e f g h i j : Option ℕ)
     → parts_of_numbers boot a b c d e f g h i j
     ≡ parts_of_pairs boot (paired a b) (paired c d) (paired e f) (paired g h) (paired i j)
-by_pairs boot None b c d e f g h i j = refl
-by_pairs boot (Some a) None c d e f g h i j = refl
-by_pairs boot (Some a) (Some b) None d e f g h i j = refl
-by_pairs boot (Some a) (Some b) (Some c) None e f g h i j = refl
-by_pairs boot (Some a) (Some b) (Some c) (Some d) None f g h i j = refl
-by_pairs boot (Some a) (Some b) (Some c) (Some d) (Some e) None g h i j = refl
-by_pairs boot (Some a) (Some b) (Some c) (Some d) (Some e) (Some f) None h i j = refl
-by_pairs boot (Some a) (Some b) (Some c) (Some d) (Some e) (Some f) (Some g) None i j = refl
-by_pairs boot (Some a) (Some b) (Some c) (Some d) (Some e) (Some f) (Some g) (Some h) None j = refl
-by_pairs boot (Some a) (Some b) (Some c) (Some d) (Some e) (Some f) (Some g) (Some h) (Some i) None = refl
-by_pairs boot (Some a) (Some b) (Some c) (Some d) (Some e) (Some f) (Some g) (Some h) (Some i) (Some j) = refl
+by_pairs boot a b c d e f g h i j = grind arith
 
 -- the parts, by the pairs of their numbers
 pub parts_paired : (boot : List Boot) (l : Data)
@@ -80,16 +70,11 @@ pub parts_paired : (boot : List Boot) (l : Data)
     (pair_at (codes "blocks") (codes "cpus") l) (pair_at (codes "batch") (codes "high") l)
     (pair_at (codes "owners") (codes "pages") l) (pair_at (codes "words") (codes "history") l)
 unfolding parts_with pair_at
-parts_paired boot l =
-    by_pairs boot (number_at (codes "order") l) (number_at (codes "pageblocks") l)
-    (number_at (codes "blocks") l) (number_at (codes "cpus") l) (number_at (codes "batch") l)
-    (number_at (codes "high") l) (number_at (codes "owners") l) (number_at (codes "pages") l)
-    (number_at (codes "words") l) (number_at (codes "history") l)
+parts_paired boot l = grind (arith, by_pairs)
 
 -- the same, where the pairs are known
 pub of_pairs : (boot : List Boot) (l : Data) (a b c d e : Option (ℕ × ℕ))
     → a ≡ pair_at (codes "order") (codes "pageblocks") l → b ≡ pair_at (codes "blocks") (codes "cpus") l
     → c ≡ pair_at (codes "batch") (codes "high") l → d ≡ pair_at (codes "owners") (codes "pages") l
     → e ≡ pair_at (codes "words") (codes "history") l → parts_of_pairs boot a b c d e ≡ parts_with boot l
-of_pairs boot l a b c d e one two three four five =
-    rw (one, two, three, four, five) (sym (parts_paired boot l))
+of_pairs boot l a b c d e one two three four five = grind (arith, parts_paired)

@@ -1,6 +1,6 @@
 -- What `serde_json` tells of a text, in the words of a scenario.
-use Rattle.std.proofs.Common.{◌≡◌, ℕ, Bool, true, false, cond, eqb, List, Option, Some, None, Ok, Err, refl, sym, ap, ◌∙◌}
-use Rattle.std.specs.Str.{IsUtf8, is_utf8}
+use Rattle.std.proofs.Common.{◌≡◌, ℕ, Bool, true, cond, eqb, List, Option, Some, None, Ok, Err, refl, sym, ap, ◌∙◌, arith}
+use Rattle.std.specs.Str.{IsUtf8}
 use Rattle.std.proofs.lemmas.Str.{is_utf8-from_IsUtf8, IsUtf8-from_is_utf8}
 use Rattle.serde_json.specs.Data.{Data, Members}
 use Rattle.serde_json.specs.Events.{members_len}
@@ -22,11 +22,9 @@ unfolding json_of
 json_read bytes d text e = rw (is_utf8-from_IsUtf8 bytes text, e) refl
 
 none_if : (b : Bool) (r : Option Data) → (b ≡ true → r ≡ None) → cond b r None ≡ None
-none_if true r h = h refl
-none_if false r h = refl
+none_if b r h = grind arith
 
 pub json_refused : (bytes : List ℕ) → (IsUtf8 bytes → read bytes ≡ None)
     → or_fault NotJson (json_of bytes) ≡ Err NotJson
 unfolding json_of
-json_refused bytes h =
-    rw (none_if (is_utf8 bytes) (read bytes) (λ t. h (IsUtf8-from_is_utf8 bytes t))) refl
+json_refused bytes h = grind (arith, none_if, IsUtf8-from_is_utf8)

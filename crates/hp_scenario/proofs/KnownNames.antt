@@ -1,5 +1,5 @@
 -- A name that stands among the names.
-use Rattle.std.proofs.Common.{◌≡◌, ℕ, ◌<◌, Bool, true, false, cond, ltb, List, [], Some, None, length, get_or, refl, sym, ap, ◌∙◌, arith}
+use Rattle.std.proofs.Common.{◌≡◌, ℕ, ◌<◌, Bool, true, false, cond, List, [], Some, None, length, get_or, refl, arith}
 use Rattle.std.proofs.lemmas.Bool.{lt-ltb}
 use Rattle.std.proofs.lemmas.List.{get_or_default}
 use Rattle.std.proofs.lemmas.List.Folds.{list_any_at}
@@ -10,8 +10,7 @@ use Rattle.std.specs.Str.{bytes_eq}
 use Rattle.indexmap.specs.IndexSet.{insert_key}
 
 some_if : (b : Bool) (k n : ℕ) → cond b (Some k) None ≡ Some n → n ≡ k
-some_if true k n e = cc
-some_if false k n e = absurd cc
+some_if b k n e = grind arith
 
 -- its place is its number
 pub known_place : (names : List (List ℕ)) (name : List ℕ) (n : ℕ) → position (bytes_eq name) names ≡ Some n
@@ -30,8 +29,5 @@ pub stands_first : (names : List (List ℕ)) (name : List ℕ) (n : ℕ) (x : Li
     → ((k : ℕ) → k < n → bytes_eq name (get_or names k []) ≡ false) → x ≡ get_or names n x
     → bytes_eq name x ≡ true → position (bytes_eq name) names ≡ Some n
 stands_first names name n x within before is equal =
-    let here : bytes_eq name (get_or names n []) ≡ true =
-    ap (bytes_eq name) (sym (is ∙ get_or_default names n x [] within)) ∙ equal in
-    let place : position_or_len (bytes_eq name) names ≡ n =
-    position_or_len_is (bytes_eq name) names n [] (omega (arith, within)) before (λ lt. here) in
-    ap (λ (k : ℕ). cond (ltb k (length names)) (Some k) None) place ∙ rw (lt-ltb n (length names) within) refl
+    let here : bytes_eq name (get_or names n []) ≡ true = cc (get_or_default names n x [] within) in
+    grind (arith, position_or_len_is, lt-ltb)

@@ -1,5 +1,5 @@
 -- Both directions of the law on lines.
-use Rattle.std.proofs.Common.{◌≡◌, ℕ, ◌^◌, ◌<◌, List, Some, ◌↔◌, sym, ap, ◌∙◌, arith}
+use Rattle.std.proofs.Common.{◌≡◌, ℕ, List, Some, ◌↔◌, sym, ap, ◌∙◌, arith}
 use Rattle.std.specs.Fmt.{decimal}
 use Rattle.std.specs.List.{join_with_byte, slice_split}
 use Rattle.std.proofs.lemmas.List.Splits.{join_with_byte-slice_split}
@@ -20,9 +20,8 @@ line_is : (text : List ℕ) (said : Said) → (text ≡ line_text said) × CanBe
     → line_says text ≡ Some said
 unfolding line_says
 line_is text said h =
-    let fits : said.cpu < 2 ^ 64 = omega (arith, h.1.0) in
-    rw h.0 (rw (split_joined (decimal said.cpu) (request_words said.request) (decimal_spaceless said.cpu fits)
-    (spaceless_request said.request h.1.1)) (read_said said h.1))
+    rw h.0 (rw (split_joined (decimal said.cpu) (request_words said.request) (decimal_spaceless said.cpu
+    (omega (arith, h.1.0))) (spaceless_request said.request h.1.1)) (read_said said h.1))
 
 pub lines_law : (text : List ℕ) (said : Said)
     → (line_says text ≡ Some said) ↔ ((text ≡ line_text said) × CanBeSaid said)

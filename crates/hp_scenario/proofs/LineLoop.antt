@@ -1,5 +1,5 @@
 -- A loop over the lines, what is left of them, and the scenario that they make.
-use Rattle.std.proofs.Common.{◌≡◌, ℕ, ◌+◌, ◌≤◌, List, [], ◌∷◌, ◌++◌, length, drop, slice_get, Option, Some, None, Result, Ok, Err, refl, sym, ap, ◌∙◌, add-one, option_map}
+use Rattle.std.proofs.Common.{◌≡◌, ℕ, ◌+◌, ◌≤◌, List, [], ◌∷◌, ◌++◌, length, drop, slice_get, Option, Some, None, Result, Ok, Err, sym, ap, ◌∙◌, add-one, option_map, arith}
 use Rattle.std.proofs.Math.Seq.{drop-cons}
 use Rattle.std.proofs.lemmas.List.{drop_all}
 use Rattle.std.proofs.lemmas.Option.{get_or_from_slice_get, slice_get_within}
@@ -30,9 +30,7 @@ pub line_goes_on : (xs : List (List ℕ)) (i : ℕ) (text : List ℕ) (script : 
     → lines_from (i + 1) script (drop i xs) ≡ total
     → lines_from ((i + 1) + 1) (record { names = names; lines = lines }) (drop (i + 1) xs) ≡ total
 unfolding lines_from
-line_goes_on xs i text script o line names lines total at h some l so_far =
-    let says : line_in script.names text ≡ Some (with_names names line) = rw (← h, some) in
-    rw l (sym (ap (lines_from (i + 1) script) (text_at xs i text at) ∙ rw says refl) ∙ so_far)
+line_goes_on xs i text script o line names lines total at h some l so_far = grind (arith, text_at)
 
 -- a text that is no line: the reading ends there
 pub line_stops : (xs : List (List ℕ)) (i : ℕ) (text : List ℕ) (script : Script) (o : Option Line)
@@ -41,9 +39,7 @@ pub line_stops : (xs : List (List ℕ)) (i : ℕ) (text : List ℕ) (script : Sc
     → option_map (with_names names) o ≡ line_in script.names text → o ≡ None
     → lines_from (i + 1) script (drop i xs) ≡ total → total ≡ Err (BadLine (i + 1))
 unfolding lines_from
-line_stops xs i text script o names total at h none so_far =
-    let says : line_in script.names text ≡ None = sym h ∙ ap (option_map (with_names names)) none in
-    sym so_far ∙ (ap (lines_from (i + 1) script) (text_at xs i text at) ∙ rw says refl)
+line_stops xs i text script o names total at h none so_far = grind (arith, text_at)
 
 -- no text is left
 pub lines_done : (xs : List (List ℕ)) (i : ℕ) (script : Script) (total : Result Script ScenarioFault)
@@ -60,5 +56,4 @@ pub all_made : (p : Option LayoutParts) (c : Option (List (List ℕ))) (parts : 
     → lines_from 1 nothing calls ≡ Ok (record { names = names; lines = lines }) → kept ≡ lines
     → scenario_if p c ≡ Ok (record { layout = layout; names = names; lines = kept })
 unfolding scenario_with
-all_made p c parts calls layout names lines kept some_parts some_calls sound read same =
-    rw (some_parts, some_calls, sound, read, same) refl
+all_made p c parts calls layout names lines kept some_parts some_calls sound read same = cc

@@ -1,5 +1,5 @@
 -- Numbers of few digits, read digit by digit.
-use Rattle.std.proofs.Common.{◌≡◌, ℕ, ◌+◌, ◌-◌, ◌*◌, ◌^◌, ◌<◌, ◌≤◌, true, cond, ◌&&◌, eqb, false, ltb, leb, List, [], ◌∷◌, length, get_or, drop, Option, Some, None, refl, sym, ap, subst, ◌∙◌, arith, add-one, drop-cons}
+use Rattle.std.proofs.Common.{◌≡◌, ℕ, ◌+◌, ◌-◌, ◌*◌, ◌^◌, ◌<◌, ◌≤◌, true, cond, ◌&&◌, ltb, leb, List, [], ◌∷◌, length, get_or, drop, Option, Some, None, refl, sym, subst, ◌∙◌, arith, add-one, drop-cons}
 use Rattle.std.proofs.Math.Nat.{pow-suc, pow-le-pow_right}
 use Rattle.std.specs.Str.{all_ascii_digits}
 use Rattle.std.specs.Str.Parse.{digits_value, digits_value_after}
@@ -8,7 +8,7 @@ use Rattle.std.specs.Prelude.{IfSome}
 use Rattle.std.proofs.lemmas.Bool.{and_parts, le-ltb, lt-ltb, leb-true, ne_eqb}
 use Rattle.std.proofs.lemmas.List.{drop_all}
 use Rattle.std.proofs.lemmas.Str.{digit_value_digit}
-use Rattle.hp_numbers.specs.NumberWords.{is_bare, digits_in, number_of}
+use Rattle.hp_units.specs.NumberWords.{is_bare, digits_in, number_of}
 use Rattle.hp_scenario.specs.Words.{IsPlainNumber}
 
 -- ---- digit by digit
@@ -20,10 +20,7 @@ pub record AreLeft (digits left : List ℕ) (number : ℕ) : Type 0 where
 
 digit_left : (digits rest : List ℕ) (c n m : ℕ) → (leb 48 c && leb c 57) ≡ true → m ≡ n * 10 + digit_value c
     → AreLeft digits (c ∷ rest) n → AreLeft digits rest m
-digit_left digits rest c n m digit next left = record {
-  all = sym (ap (λ b. b && all_ascii_digits rest) digit) ∙ left.all;
-  value = ap (λ k. digits_value_after 10 k rest) next ∙ left.value;
-}
+digit_left digits rest c n m digit next left = grind arith
 
 pub one_digit : (digits : List ℕ) (i n c m : ℕ) → i < length digits → c ≡ get_or digits i 0
     → (leb 48 c && leb c 57) ≡ true → m ≡ n * 10 + (c - 48) → AreLeft digits (drop i digits) n
@@ -31,11 +28,8 @@ pub one_digit : (digits : List ℕ) (i n c m : ℕ) → i < length digits → c 
 one_digit digits i n c m lt is digit next left =
     let both = and_parts (leb 48 c) (leb c 57) digit in
     let value = digit_value_digit c (leb-true 48 c both.0, leb-true c 57 both.1) in
-    let same : m ≡ n * 10 + digit_value c = omega arith in
-    let first : drop i digits ≡ c ∷ drop (i + 1) digits =
-    drop-cons digits i 0 lt ∙ rw (sym is, add-one i) refl in
-    digit_left digits (drop (i + 1) digits) c n m digit same
-    (subst (λ (xs : List ℕ). AreLeft digits xs n) first left)
+    digit_left digits (drop (i + 1) digits) c n m digit (omega arith) (subst (λ (xs : List ℕ). AreLeft digits
+    xs n) (drop-cons digits i 0 lt ∙ rw (sym is, add-one i) refl) left)
 
 pub all_left : (digits : List ℕ) → AreLeft digits (drop 0 digits) 0
 all_left digits = record { all = refl; value = refl }
@@ -46,26 +40,19 @@ nothing_left digits n left = (sym left.all, sym left.value)
 
 pub none_left : (digits : List ℕ) (i n : ℕ) → length digits ≤ i → AreLeft digits (drop i digits) n
     → (all_ascii_digits digits ≡ true) × (digits_value 10 digits ≡ n)
-none_left digits i n over left =
-    nothing_left digits n (subst (λ (xs : List ℕ). AreLeft digits xs n) (drop_all i digits over) left)
+none_left digits i n over left = grind (arith, nothing_left, drop_all)
 
 -- so many digits write a number below 10 ^ i
 pub short_number : (i n c m : ℕ) → n < 10 ^ i → (leb 48 c && leb c 57) ≡ true → m ≡ n * 10 + (c - 48)
     → m < 10 ^ (i + 1)
 short_number i n c m lt digit next =
     let both = and_parts (leb 48 c) (leb c 57) digit in
-    let high = leb-true c 57 both.1 in
     let more : 10 ^ (i + 1) ≡ 10 ^ i * 10 = rw (add-one i) (pow-suc 10 i) in
-    omega (arith, lt, leb-true 48 c both.0, high, next, more)
+    omega (arith, lt, leb-true 48 c both.0, (leb-true c 57 both.1), next, more)
 
 -- after fewer than 18 digits there is room for one more
 pub has_room : (i n len : ℕ) → n < 10 ^ i → i < len → len ≤ 18 → n * 10 + 9 < 18446744073709551616
-has_room i n len lt before few =
-    let within : i ≤ 17 = omega (arith, before, few) in
-    let some : 0 < 10 = omega arith in
-    let most : 10 ^ i ≤ 10 ^ 17 = pow-le-pow_right some {i = i} {j = 17} within in
-    let bound : 10 ^ 17 ≡ 100000000000000000 = refl in
-    omega (arith, lt, most, bound)
+has_room i n len lt before few = grind (arith, pow-le-pow_right)
 
 -- ---- the number that a word is
 
@@ -73,22 +60,13 @@ has_room i n len lt before few =
 pub lone : (word : List ℕ) (n : ℕ) → length word ≡ 1
     → (leb 48 (get_or word 0 0) && leb (get_or word 0 0) 57) ≡ true → n ≡ get_or word 0 0 - 48
     → IsPlainNumber word n
-lone (c ∷ []) n one digit is =
-    let both = and_parts (leb 48 c) (leb c 57) digit in
-    let low = leb-true 48 c both.0 in
-    let next : n ≡ 0 * 10 + (c - 48) = omega (arith, is) in
-    let left = one_digit (c ∷ []) 0 0 c n (omega arith) refl digit next (all_left (c ∷ [])) in
-    let all = none_left (c ∷ []) 1 n (omega arith) left in
-    let signed : eqb c 43 ≡ false = ne_eqb c 43 (λ e. omega (arith, e, low)) in
-    (rw signed refl, ap (λ b. b && ltb 0 1) all.0, all.1)
+lone (c ∷ []) n one digit is = grind (arith, and_parts, leb-true, one_digit, all_left, none_left, ne_eqb)
 lone _ n one digit is = absurd cc
 
 pub plain : (word : List ℕ) (r : Option ℕ) → 0 < length word → is_bare word ≡ true
     → IfSome r (λ n. all_ascii_digits word ≡ true) → IfSome r (λ n. digits_value 10 word ≡ n)
     → IfSome r (λ n. IsPlainNumber word n)
-plain word None some bare d v = tt
-plain word (Some n) some bare d v =
-    (bare, ap (λ b. b && ltb 0 (length word)) d ∙ lt-ltb 0 (length word) some, v)
+plain word r some bare d v = grind (arith, lt-ltb)
 
 pub plain_number : (bits : ℕ) (word : List ℕ) (n : ℕ) → IsPlainNumber word n
     → number_of bits word ≡ cond (ltb n (2 ^ bits)) (Some n) None

@@ -18,9 +18,7 @@ agrees true b = b
 agrees false b = not b
 
 agree_is : (a b : Bool) → T (agrees a b) → a ≡ b
-agree_is true false h = absurd h
-agree_is false true h = absurd h
-agree_is _ _ h = refl
+agree_is a b h = grind arith
 
 -- a fact of each number below one, by computation
 abbrev pub all_below : (ℕ → Bool) → ℕ → Bool
@@ -28,8 +26,7 @@ all_below p zero = true
 all_below p (suc n) = p n && all_below p n
 
 both : (a b : Bool) → T (a && b) → T a × T b
-both true b h = (tt, h)
-both false b h = absurd h
+both a b h = grind arith
 
 below_holds : (p : ℕ → Bool) (n : ℕ) → T (all_below p n) → (i : ℕ) → i < n → T (p i)
 below_holds p zero h i lt = absurd (not-suc-le-zero lt)
@@ -77,8 +74,7 @@ run_bound d i h = omega (arith, prefix_len-le-length is_plain (drop i d), length
 
 none_fails : (b : Bool) (n l m : ℕ) → n ≤ l → cond (not b) (1 + n) 0 ≡ 1 + l → (n ≡ l → m ≡ 0)
     → cond b 1 0 + 2 * m ≡ 0
-none_fails true n l m le e ih = let no : ⊥ = omega arith in absurd no
-none_fails false n l m le e ih = let z = ih (omega arith) in omega arith
+none_fails b n l m le e ih = grind arith
 
 all_pass : (xs : List ℕ) → prefix_len is_plain xs ≡ length xs → mask_l (map is_stop xs) ≡ 0
 all_pass [] e = refl
@@ -88,14 +84,12 @@ all_pass (x ∷ xs) e =
 split : (d : List ℕ) (i n : ℕ) → prefix_len is_plain (drop i d)
     ≡ cond (eqb (prefix_len is_plain (chunk i n d)) (length (chunk i n d))) (length (chunk i n d)
     + prefix_len is_plain (drop (i + n) d)) (prefix_len is_plain (chunk i n d))
-split d i n =
-    ap (prefix_len is_plain) (chunk-drop i n d) ∙ prefix_len-append is_plain (chunk i n d) (drop (i + n) d)
+split d i n = cc (chunk-drop i n d, prefix_len-append is_plain (chunk i n d) (drop (i + n) d))
 
 pub run_through : (d : List ℕ) (i n : ℕ) → i + n ≤ length d → mask_l (map is_stop (chunk i n d)) ≡ 0
     → prefix_len is_plain (drop i d) ≡ n + prefix_len is_plain (drop (i + n) d)
 run_through d i n room none =
-    let c = chunk i n d in
-    rw (split d i n, eq-eqb _ _ (leading_from_mask_l is_stop c none), length-chunk i n d room)
+    rw (split d i n, eq-eqb _ _ (leading_from_mask_l is_stop (chunk i n d) none), length-chunk i n d room)
 
 pub run_stops : (d : List ℕ) (i n : ℕ) → i + n ≤ length d → n ≤ 64 → 0 < mask_l (map is_stop (chunk i n d))
     → prefix_len is_plain (drop i d) ≡ count_trailing_zeros 64 (mask_l (map is_stop (chunk i n d)))

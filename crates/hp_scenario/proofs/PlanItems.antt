@@ -1,5 +1,5 @@
 -- A loop over the words of a plan's items, two by two.
-use Rattle.std.proofs.Common.{◌≡◌, ℕ, ◌-◌, ◌<◌, ◌≤◌, List, [], ◌∷◌, ◌++◌, length, get_or, eqb, false, take, drop, map, Bor, Option, Some, None, refl, sym, ap, ◌∙◌, arith, length-drop}
+use Rattle.std.proofs.Common.{◌≡◌, ℕ, ◌-◌, ◌<◌, ◌≤◌, List, [], ◌∷◌, ◌++◌, length, get_or, eqb, false, take, drop, map, Bor, Option, Some, None, sym, ap, ◌∙◌, arith, length-drop}
 use Rattle.std.proofs.lemmas.List.{append-nil, take_all}
 use Rattle.hp_units.specs.declared.plans.Item.{Item}
 use Rattle.hp_scenario.specs.Lines.{item_of, items_of}
@@ -11,8 +11,7 @@ bytes_of words = map (λ w. w.now) words
 -- the first two words, and the rest
 two_words : (xs : List (Bor (List ℕ))) (d e : Bor (List ℕ)) → 2 ≤ length xs
     → bytes_of xs ≡ (get_or xs 0 d).now ∷ (get_or xs 1 e).now ∷ bytes_of (drop 2 xs)
-two_words (x ∷ y ∷ rest) d e le = refl
-two_words _ d e le = absurd (omega arith)
+two_words xs d e le = grind arith
 
 tail_is : (xs : List (Bor (List ℕ))) (n : ℕ) → n ≡ length xs → take (n - 2) (drop 2 xs) ≡ drop 2 xs
 tail_is xs n same = take_all _ _ (omega (arith, length-drop 2 xs))
@@ -25,17 +24,14 @@ pub item_goes_on : (xs : List (Bor (List ℕ))) (n : ℕ) (d e : Bor (List ℕ))
     → after_front new (items_of (bytes_of (take (n - 2) (drop 2 xs)))) ≡ total
 unfolding items_of
 item_goes_on xs n d e r x front new total le same h some grown so_far =
-    rw (tail_is xs n same, grown) (sym (after_front_step front x (items_of (bytes_of (drop 2 xs))))
-    ∙ ap (after_front front) (sym (ap items_of (two_words xs d e le) ∙ rw (sym h ∙ some) refl)) ∙ so_far)
+    grind (arith, tail_is, after_front_step, after_front, two_words)
 
 pub item_stops : (xs : List (Bor (List ℕ))) (d e : Bor (List ℕ)) (r : Option Item) (front : List Item)
     (total : Option (List Item))
     → 2 ≤ length xs → r ≡ item_of (get_or xs 0 d).now (get_or xs 1 e).now → r ≡ None
     → after_front front (items_of (bytes_of xs)) ≡ total → None ≡ total
 unfolding items_of
-item_stops xs d e r front total le h none so_far =
-    let one : items_of (bytes_of xs) ≡ None = ap items_of (two_words xs d e le) ∙ rw (sym h ∙ none) refl in
-    ap (after_front front) (sym one) ∙ so_far
+item_stops xs d e r front total le h none so_far = grind (arith, two_words, after_front)
 
 pub one_left : (xs : List (Bor (List ℕ))) (front : List Item) (total : Option (List Item)) → length xs < 2
     → eqb (length xs) 0 ≡ false → after_front front (items_of (bytes_of xs)) ≡ total → None ≡ total

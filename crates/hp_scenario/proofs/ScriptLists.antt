@@ -1,6 +1,5 @@
 -- Lines that are dealt to the scripts of their processors, one after another.
-use Rattle.std.proofs.Common.{◌≡◌, ◌≢◌, ◌==◌, ℕ, ◌<◌, ◌≤◌, Bool, true, false, not, List, [], ◌∷◌, ◌++◌, length, map, cond, eqb, get_or, set, reverse, refl, sym, ap, ◌∙◌, arith, Some, None}
-use Rattle.std.specs.Bool.{nat_lt}
+use Rattle.std.proofs.Common.{◌≡◌, ◌≢◌, ◌==◌, ℕ, ◌<◌, ◌≤◌, Bool, true, false, not, List, [], ◌∷◌, ◌++◌, length, map, cond, eqb, get_or, set, reverse, refl, sym, ap, ◌∙◌, arith, None}
 use Rattle.std.specs.List.{All, list_all, position_or_len, range_with_len}
 use Rattle.std.proofs.lemmas.List.{append-nil, append_assoc, ext_get_or, get_or-set_other, length-set, reverse-append, reverse-reverse}
 use Rattle.std.proofs.lemmas.List.Elements.{All-filter, All-map}
@@ -9,7 +8,6 @@ use Rattle.std.proofs.lemmas.List.FromFn.{get_or-map-range_with_len, length-map-
 use Rattle.std.proofs.lemmas.List.Sums.{AllPass-from_list_all, fails_before_first, list_all-from_AllPass}
 use Rattle.std.proofs.lemmas.Bool.{eqb-false, eqb-true, ltb-false, ltb-true, ne_eqb, and_from, and_parts, not-false}
 use Rattle.std.proofs.lemmas.Grind.{get_or-set_at}
-use Rattle.hp_scenario.specs.Asked.{is_cat}
 use Rattle.hp_scenario.specs.Scripts.{AreAllOf, AreForRun, IsForRun, first_unfit, is_for_run, script_of}
 use Rattle.hp_scenario.specs.declared.lines.Line.{Line}
 
@@ -24,12 +22,7 @@ AreDealt lines left scripts =
 pub none_dealt : (lines left : List Line) (scripts : List (List Line)) (cpus : ℕ) → left ≡ reverse lines
     → scripts ≡ map (script_of []) (range_with_len 0 cpus) → AreDealt lines left scripts
 none_dealt lines left scripts cpus left_is scripts_are cpu within =
-    let count : length scripts ≡ cpus = rw scripts_are (length-map-range_with_len (script_of []) 0 cpus) in
-    let here : get_or scripts cpu [] ≡ [] =
-    ap (λ (xs : List (List Line)). get_or xs cpu []) scripts_are ∙ get_or-map-range_with_len (script_of [])
-    0 cpus cpu cpu [] (omega (arith, within, count)) (omega arith) in
-    let all : reverse left ≡ lines = ap reverse left_is ∙ reverse-reverse lines in
-    rw (here, all)
+    grind (arith, length-map-range_with_len, get_or-map-range_with_len, reverse-reverse)
 
 -- a line more is dealt
 one_dealt : (lines old left : List Line) (line : Line) (scripts : List (List Line)) (own : List Line)
@@ -70,9 +63,7 @@ pub one_dealt_at : (lines old left : List Line) (line : Line) (scripts : List (L
     (place : ℕ)
     → place ≡ line.cpu → old ≡ left ++ line ∷ [] → own ≡ get_or scripts place [] ++ line ∷ []
     → place < length scripts → AreDealt lines old scripts → AreDealt lines left (set scripts place own)
-one_dealt_at lines old left line scripts own place is old_is own_is inside before =
-    rw is (one_dealt lines old left line scripts own old_is
-    (own_is ∙ ap (λ (k : ℕ). get_or scripts k [] ++ line ∷ []) is) (omega (arith, inside, is)) before)
+one_dealt_at lines old left line scripts own place is old_is own_is inside before = grind (arith, one_dealt)
 
 -- all lines are dealt
 pub all_dealt : (lines left : List Line) (scripts : List (List Line)) (cpus : ℕ) → left ≡ []
@@ -110,14 +101,7 @@ other_script cpu other (line ∷ lines) apart all =
 pub one_within : (cpus cpu : ℕ) (lines : List Line) → AreAllOf lines cpu
     → list_all (is_for_run cpus) lines ≡ true → cpu < cpus
 one_within cpus cpu [] all fit = absurd (omega (arith, all.0))
-one_within cpus cpu (line ∷ lines) all fit =
-    let same =
-    eqb-true line.cpu cpu
-    (and_parts (eqb line.cpu cpu) (list_all (λ line. line.cpu == cpu) lines) all.1).0 in
-    let first = and_parts (is_for_run cpus line) (list_all (is_for_run cpus) lines) fit in
-    let within =
-    ltb-true line.cpu cpus (and_parts (nat_lt line.cpu cpus) (not (is_cat line.work)) first.0).0 in
-    omega (arith, same, within)
+one_within cpus cpu (line ∷ lines) all fit = grind (arith, eqb-true, and_parts, ltb-true)
 
 -- the scripts where all lines are one processor's
 pub all_together : (cpus cpu : ℕ) (lines : List Line) (bare : List (List Line))
@@ -140,42 +124,21 @@ all_together cpus cpu lines bare bare_is all inside =
         get_or-set_at bare cpu at lines [] same (omega (arith, inside, count))
         ∙ (sym (own_script cpu lines all.1) ∙ ap (script_of lines) (sym same))
     by_place at room false e =
-        let apart : at ≢ cpu = eqb-false at cpu e in
-        get_or-set_other bare cpu at lines [] apart
-        ∙ (rw bare_is (get_or-map-range_with_len (script_of []) 0 cpus at at [] room (omega arith) ∙ sym
-        (other_script cpu at lines apart all.1)))
+        grind (arith, eqb-false, get_or-set_other, get_or-map-range_with_len, other_script)
 
 -- the search comes to the end
 reached : (cpus : ℕ) (lines : List Line) → first_unfit cpus lines ≡ None
     → length lines ≤ position_or_len (λ line. not (is_for_run cpus line)) lines
-reached cpus lines none =
-    by_test (nat_lt (position_or_len (λ line. not (is_for_run cpus line)) lines) (length lines)) refl none
-  where
-    by_test : (t : Bool)
-        → nat_lt (position_or_len (λ line. not (is_for_run cpus line)) lines) (length lines) ≡ t
-        → cond t (Some (position_or_len (λ line. not (is_for_run cpus line)) lines)) None ≡ None
-        → length lines ≤ position_or_len (λ line. not (is_for_run cpus line)) lines
-    by_test true e found = absurd cc
-    by_test false e found = ltb-false _ _ e
+reached cpus lines none = grind (arith, ltb-false)
 
 -- a line that may be run reads no control file
 reads_none : (cpus : ℕ) (line : Line) → is_for_run cpus line ≡ true → IsForRun line
-reads_none cpus line fits =
-    no_cat (is_cat line.work) (and_parts (nat_lt line.cpu cpus) (not (is_cat line.work)) fits).1
-  where
-    no_cat : (t : Bool) → not t ≡ true → t ≡ false
-    no_cat true e = absurd cc
-    no_cat false e = refl
+reads_none cpus line fits = grind (arith, and_parts)
 
 -- of lines that all may be run, the last may be, and the others
 pub all_but_last : (cpus : ℕ) (old left : List Line) (line : Line) → old ≡ left ++ line ∷ []
     → list_all (is_for_run cpus) old ≡ true → (list_all (is_for_run cpus) left ≡ true) × (line.cpu < cpus)
-all_but_last cpus old left line old_is all =
-    let both =
-    and_parts (list_all (is_for_run cpus) left) (list_all (is_for_run
-    cpus) (line ∷ [])) (rw (← list_all-append (is_for_run cpus) left (line ∷ []), ← old_is) all) in
-    let last = and_parts (is_for_run cpus line) true both.1 in
-    (both.0, ltb-true line.cpu cpus (and_parts (nat_lt line.cpu cpus) (not (is_cat line.work)) last.0).0)
+all_but_last cpus old left line old_is all = grind (arith, and_parts, list_all-append, ltb-true)
 
 -- lines that all may be run, in the other order
 pub all_reversed : (cpus : ℕ) (lines : List Line) → list_all (is_for_run cpus) lines ≡ true
@@ -190,10 +153,7 @@ all_reversed cpus (line ∷ lines) all =
 -- where no line is found that no worker may run, all may be
 pub all_fit : (cpus : ℕ) (lines : List Line) → first_unfit cpus lines ≡ None
     → list_all (is_for_run cpus) lines ≡ true
-all_fit cpus lines none =
-    list_all-from_AllPass (is_for_run cpus) lines (λ k d within. not-false (is_for_run cpus
-    (get_or lines k d)) (fails_before_first (λ line. not (is_for_run cpus line)) lines k d
-    (omega (arith, within, reached cpus lines none))))
+all_fit cpus lines none = grind (arith, list_all-from_AllPass, not-false, fails_before_first, reached)
 
 -- the scripts of lines that all may be run
 pub all_for_run : (cpus : ℕ) (lines : List Line) → list_all (is_for_run cpus) lines ≡ true

@@ -13,7 +13,7 @@ use Rattle.hp_scenario.specs.Form.{Form, boot_of, boot_at, each_in, texts_at, bo
 use Rattle.hp_scenario.specs.Gives.{◌>>=◌, or_fault}
 use Rattle.hp_scenario.specs.Names.{Numbered, line_in}
 use Rattle.hp_scenario.specs.Scenario.{ScenarioValue, Script, with_line, nothing, lines_from, scenario_with, scenario_of, scenario_in}
-use Rattle.hp_scenario.specs.Usual.{Reads, strings_then, AreTexts, texts_data, AreRows, put_rows, rows_of, parts_from, EndsWithBoots, IsLayoutAt, AreLines, AreScenario}
+use Rattle.hp_scenario.specs.Usual.{Reads, strings_then, texts_data, AreRows, put_rows, rows_of, parts_from, EndsWithBoots, IsLayoutAt, AreLines, AreScenario}
 use Rattle.std.specs.Prelude.{IfOk, IfSome}
 use Rattle.std.specs.declared.alloc.AllocError.{AllocError}
 use Rattle.hp_scenario.proofs.Json.{json_read}
@@ -32,42 +32,31 @@ boot_then : (o : Option Boot) (rest more : Option (List Boot)) (bs : List Boot) 
     → option_and_then (λ x. option_and_then (λ xs. Some (x ∷ xs)) rest) o ≡ Some bs
     → ((ys : List Boot) → rest ≡ Some ys → more ≡ Some (ys ++ b ∷ []))
     → option_and_then (λ x. option_and_then (λ xs. Some (x ∷ xs)) more) o ≡ Some (bs ++ b ∷ [])
-boot_then (Some x) (Some ys) more bs b e h =
-    let same : x ∷ ys ≡ bs = cc in
-    rw (h ys refl) (ap (λ (zs : List Boot). Some (zs ++ b ∷ [])) same)
-boot_then _ _ more bs b e h = absurd (cc)
+boot_then o rest more bs b e h = grind arith
 
 pub one_more_boot : (words : List (List ℕ)) (word : List ℕ) (bs : List Boot) (b : Boot)
     → each_in boot_at (texts_data words) ≡ Some bs → boot_of word ≡ Some b
     → each_in boot_at (texts_data (words ++ word ∷ [])) ≡ Some (bs ++ b ∷ [])
 unfolding each_in
-one_more_boot [] word bs b e h =
-    let none : [] ≡ bs = cc in
-    rw h (ap (λ (zs : List Boot). Some (zs ++ b ∷ [])) none)
+one_more_boot [] word bs b e h = cc
 one_more_boot (w ∷ words) word bs b e h =
-    boot_then (boot_of w) (each_in boot_at (texts_data words))
-    (each_in boot_at (texts_data (words ++ word ∷ [])))
-    bs b e (λ ys rest. one_more_boot words word ys b rest h)
+    boot_then _ _ _ _ _ e (λ ys rest. one_more_boot words word ys b rest h)
 
 -- ---- lines
 
 line_then : (at : ℕ) (o : Option Numbered) (f g : Numbered → Result Script ScenarioFault) (now last : Script)
     → (or_fault (BadLine at) o >>= f) ≡ Ok now → ((m : Numbered) → f m ≡ Ok now → g m ≡ Ok last)
     → (or_fault (BadLine at) o >>= g) ≡ Ok last
-line_then at None f g now last e h = absurd (cc)
-line_then at (Some m) f g now last e h = h m e
+line_then at o f g now last e h = grind arith
 
 pub one_more_line : (at : ℕ) (script now : Script) (texts : List (List ℕ)) (text : List ℕ) (n : Numbered)
     → lines_from at script texts ≡ Ok now → line_in now.names text ≡ Some n
     → lines_from at script (texts ++ text ∷ []) ≡ Ok (with_line now n)
 unfolding lines_from
-one_more_line at script now [] text n e h =
-    let same : script ≡ now = cc in
-    ap (λ (s : Script). or_fault (BadLine at) (line_in s.names text) >>= λ m. Ok (with_line s m)) same
-    ∙ rw h refl
+one_more_line at script now [] text n e h = cc
 one_more_line at script now (t ∷ texts) text n e h =
-    line_then at (line_in script.names t) (λ m. lines_from (at + 1) (with_line script m) texts)
-    (λ m. lines_from (at + 1) (with_line script m) (texts ++ text ∷ [])) now (with_line now n) e
+    line_then _ _ (λ m. lines_from (at + 1) (with_line script m) texts)
+    (λ m. lines_from (at + 1) (with_line script m) (texts ++ text ∷ [])) _ _ e
     (λ m rest. one_more_line (at + 1) (with_line script m) now texts text n rest h)
 
 -- ---- the form
@@ -101,19 +90,14 @@ layout_read n boot old start mid new opened rows ends sound =
     let m = ends.0 in
     let words = ends.2.0 in
     let list = array (texts_data words) in
-    let one : Reads 125 list (Token.begin_array ∷ m) (Token.end_object ∷ new) =
-    reads_texts 125 words m (Token.end_object ∷ new) (omega arith) ends.2.1 in
-    let last : Adds 125 (λ ms. put (codes "boot") list ms)
-    (Token.key (codes "boot") ∷ Token.begin_array ∷ m) new =
-    adds_one 125 (codes "boot") list (λ ms. ms) (Token.begin_array ∷ m) (Token.end_object ∷ new) new one
-    (adds_none 125 new) in
-    let rest : Adds 125 (λ ms. put (codes "boot") list ms) mid new = rw ends.1 last in
-    let all = adds_rows 125 (rows_of n) (λ ms. put (codes "boot") list ms) start mid new rows rest in
+    let last : Adds 125 (λ ms. put (codes "boot") list ms) (Token.key (codes "boot") ∷ Token.begin_array ∷ m)
+    new = adds_one 125 (codes "boot") list (λ ms. ms) (Token.begin_array ∷ m) (Token.end_object ∷ new) new
+    (grind (arith, reads_texts)) (adds_none 125 new) in
+    let all = adds_rows 125 (rows_of n) (put (codes "boot") list) start mid new rows (rw ends.1 last) in
     let d = object (put (codes "boot") list (put_rows (rows_of n) no_members)) in
     let whole : Reads 126 d (Token.begin_object ∷ start) new =
     reads_object 126 (λ ms. put (codes "boot") list (put_rows (rows_of n) ms)) start new (omega arith) all in
-    let all_read = subst (λ (ts : List Token). Reads 126 d ts new) (sym opened) whole in
-    (d, all_read, parts_read n words boot ends.2.2, sound)
+    (d, rw opened whole, parts_read n words boot ends.2.2, sound)
 
 -- a scenario's value
 of_form : (d : Data) (form : Form) (script : Script) → form_of d ≡ Some form → layout_fault form.parts ≡ None
@@ -131,36 +115,25 @@ scenario_read layout script old a b e f g opened named placed listed lines over 
     let dl = placed.0 in
     let texts = lines.0 in
     let dc = array (texts_data texts) in
-    let are : AreTexts texts f (Token.end_object ∷ []) = rw (← over) lines.1 in
-    let calls : Reads 126 dc (Token.begin_array ∷ f) (Token.end_object ∷ []) =
-    reads_texts 126 texts f (Token.end_object ∷ []) (omega arith) are in
+    let calls : Reads 126 dc (Token.begin_array ∷ f) (Token.end_object ∷ []) = grind (arith, reads_texts) in
     let last : Adds 126 (λ ms. put (codes "calls") dc ms)
     (Token.key (codes "calls") ∷ Token.begin_array ∷ f) [] =
-    adds_one 126 (codes "calls") dc (λ ms. ms) (Token.begin_array ∷ f) (Token.end_object ∷ []) [] calls
-    (adds_none 126 []) in
-    let rest : Adds 126 (λ ms. put (codes "calls") dc ms) e [] = rw listed last in
-    let both : Adds 126 (λ ms. put (codes "calls") dc (put (codes "layout") dl ms))
-    (Token.key (codes "layout") ∷ b) [] =
-    adds_one 126 (codes "layout") dl (λ ms. put (codes "calls") dc ms) b e [] placed.1 rest in
+    adds_one _ _ _ (λ ms. ms) _ _ _ calls (adds_none 126 []) in
+    let both : Adds 126 (λ ms. put (codes "calls") dc (put (codes "layout") dl ms)) (Token.key (codes
+    "layout") ∷ b) [] = adds_one _ _ _ (λ ms. put (codes "calls") dc ms) _ _ _ placed.1 (rw listed last) in
     let d = object (put (codes "calls") dc (put (codes "layout") dl no_members)) in
     let whole : Reads 127 d (Token.begin_object ∷ Token.key (codes "layout") ∷ b) [] =
-    reads_object 127 (λ ms. put (codes "calls") dc (put (codes "layout") dl ms))
-    (Token.key (codes "layout") ∷ b) [] (omega arith) both in
-    let same : Token.begin_object ∷ Token.key (codes "layout") ∷ b ≡ old = rw (← named, ← opened) in (
+    reads_object _ (λ ms. put (codes "calls") dc (put (codes "layout") dl ms)) _ _ (omega arith) both in (
       d,
-      subst (λ (ts : List Token). Reads 127 d ts []) same whole,
-      of_form d (record { parts = layout; calls = texts }) script
-          (form_read dl texts layout placed.2) placed.3 lines.2,
+      rw (opened, named) whole,
+      of_form _ _ _ (form_read _ _ _ placed.2) placed.3 lines.2,
     )
 
 -- the bytes of a scenario
 pub scenario_is : (bytes text : List ℕ) (s : ScenarioValue) → IsUtf8 bytes → text ≡ bytes
     → AreScenario s (tokens text) → scenario_in bytes ≡ Ok s
 unfolding scenario_in
-scenario_is bytes text s utf same h =
-    let d = h.0 in
-    let there : Reads 127 d (tokens bytes) [] = rw (← same) h.1 in
-    ap (λ r. r >>= scenario_of) (json_read bytes d utf (reads_all bytes d there)) ∙ h.2
+scenario_is bytes text s utf same h = cc (json_read bytes h.0 utf (reads_all bytes h.0 (rw (← same) h.1)))
 
 -- ---- turns of the loops
 
@@ -168,23 +141,14 @@ scenario_is bytes text s utf same h =
 pub string_passed : (start now taken new : List Token) (texts : List (List ℕ)) (text : List ℕ)
     → start ≡ strings_then texts now → taken ≡ now → taken ≡ Token.string text ∷ new
     → start ≡ strings_then (texts ++ text ∷ []) new
-string_passed start now taken new texts text so_far same first =
-    so_far ∙ ap (strings_then texts) (sym same ∙ first) ∙ one_more_string texts text new
+string_passed start now taken new texts text so_far same first = cc (one_more_string texts text new)
 
 -- the words of `boot` ended, and with them the layout
 pub boots_end : (old start now taken new : List Token) (words : List (List ℕ)) (boot : List Boot)
     → old ≡ Token.key (codes "boot") ∷ Token.begin_array ∷ start → start ≡ strings_then words now
     → now ≡ Token.end_array ∷ taken → taken ≡ Token.end_object ∷ new
     → each_in boot_at (texts_data words) ≡ Some boot → EndsWithBoots boot old new
-boots_end old start now taken new words boot opened so_far closed over are = (
-  start,
-  opened,
-  (
-    words,
-    so_far ∙ ap (strings_then words) (closed ∙ ap (λ (ts : List Token). Token.end_array ∷ ts) over),
-    are,
-  ),
-)
+boots_end old start now taken new words boot opened so_far closed over are = grind arith
 
 pub no_boots : (bs : List Boot) → bs ≡ [] → each_in boot_at (texts_data []) ≡ Some bs
 unfolding each_in
@@ -209,8 +173,6 @@ pub layout_found : (r : Result (Option LayoutParts) AllocError) (n : LayoutParts
     → IfOk r (λ o. IfSome o (λ l. IsLayoutAt l old new))
 layout_found (Ok (Some l)) n boot blocks old start mid new opened rows ends same h =
     let is : l ≡ parts_from n blocks = h.0 ∙ ap (parts_from n) same in
-    let sound : layout_fault (parts_from n blocks) ≡ None =
-    subst (λ (p : LayoutParts). layout_fault p ≡ None) is h.1 in
-    subst (λ (p : LayoutParts). IsLayoutAt p old new) (sym is)
-    (layout_read n blocks old start mid new opened rows ends sound)
+    subst (λ (p : LayoutParts). IsLayoutAt p old new) (sym is) (layout_read n blocks old start mid new opened
+    rows ends (subst (λ (p : LayoutParts). layout_fault p ≡ None) is h.1))
 layout_found _ n boot blocks old start mid new opened rows ends same h = h

@@ -8,7 +8,7 @@ use Rattle.hp_units.specs.declared.rows.Wish.{Wish}
 use Rattle.hp_units.specs.declared.rows.Wish.TheVariants as wish
 use Rattle.hp_units.specs.declared.rows.Zone.{Zone}
 use Rattle.hp_units.specs.declared.rows.Zone.TheVariants as zone
-use Rattle.hp_numbers.specs.NumberWords.{number_of}
+use Rattle.hp_units.specs.NumberWords.{number_of}
 use Rattle.hp_scenario.specs.Words.{is_name, words_of}
 use Rattle.hp_scenario.specs.declared.lines.Work.{Work}
 use Rattle.hp_scenario.specs.declared.lines.Work.TheVariants as work

@@ -3,7 +3,7 @@ use Rattle.std.specs.Prelude.{◌≡◌, ℕ, ◌&&◌, ◌||◌, ◌==◌, List
 use Rattle.std.specs.List.{list_all, slice_split}
 use Rattle.std.specs.Int.{is_in_range}
 use Rattle.std.specs.Str.Parse.{digits_value}
-use Rattle.hp_numbers.specs.NumberWords.{is_bare, is_digits}
+use Rattle.hp_units.specs.NumberWords.{is_bare, is_digits}
 
 -- the words between single spaces
 abbrev pub words_of : List ℕ → List (List ℕ)

@@ -2,7 +2,7 @@
 ghost use Rattle.std.specs.Prelude.{◌≡◌, ◌<◌, ◌≤◌, true, IfSome, length};
 ghost use Rattle.std.specs.Str.{all_ascii_digits};
 ghost use Rattle.std.specs.Str.Parse.{digits_value as value_of};
-ghost use Rattle.hp_numbers.specs.NumberWords.{is_bare as bare, number_of};
+ghost use Rattle.hp_units.specs.NumberWords.{is_bare as bare, number_of};
 ghost use Rattle.hp_scenario.specs.Words.{IsPlainNumber};
 
 use hp_units::{number32 as any_number32, number64 as any_number64};

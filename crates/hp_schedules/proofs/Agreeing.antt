@@ -1,5 +1,5 @@
 -- Lines that work on equal results call the same.
-use Rattle.std.proofs.Common.{◌≡◌, ℕ, zero, suc, Bool, true, List, [], ◌∷◌, ◌++◌, drop, get_or, length, map, Some, slice_get, refl, ap, sym, ◌∙◌, inl, inr, arith}
+use Rattle.std.proofs.Common.{◌≡◌, ℕ, zero, suc, Bool, true, List, [], ◌∷◌, ◌++◌, drop, get_or, length, map, Some, slice_get, refl, ap, inl, inr, arith}
 use Rattle.std.specs.Prelude.{flat_map}
 use Rattle.std.specs.List.{list_all}
 use Rattle.std.proofs.lemmas.Bool.{and_parts, cases_Bool, cases_lt}
@@ -11,13 +11,13 @@ use Rattle.hp_units.specs.declared.events.Event.{Event}
 use Rattle.hp_units.specs.declared.replies.Receipt.{Receipt}
 use Rattle.hp_schedules.specs.Alike.{AreMergeable, is_mergeable, is_mergeable_line, unnumbered}
 use Rattle.hp_schedules.specs.Cursors.{frames_named}
-use Rattle.hp_schedules.specs.Scripts.{Known, after_line, frames_of, known_of, later_operation, line_next, next_in, nothing_known, no_frame, once, own_operation, step_work_of, takes_frame, work_of}
+use Rattle.hp_schedules.specs.Scripts.{Known, after_line, frames_of, known_of, later_operation, line_next, next_in, nothing_known, no_frame, once, own_operation, work_of}
 use Rattle.hp_schedules.specs.Starts.{same_starts}
 use Rattle.hp_schedules.specs.declared.scripts.OwnWork.TheVariants.{Latest, Nth, Free}
 use Rattle.hp_schedules.specs.declared.scripts.Step.{Step}
 use Rattle.hp_schedules.specs.declared.scripts.Step.TheVariants.{Ask, Own, Carry}
 use Rattle.hp_schedules.proofs.AfterLines.{any_known}
-use Rattle.hp_renumbering.proofs.Options.{cases_option}
+use Rattle.hp_laws.proofs.NumberedOptions.{cases_option}
 
 -- ---- results with further receipts
 
@@ -32,11 +32,7 @@ operation_more xs ys later same =
 -- the frames do not depend on the receipts' serials
 pub frames_plain : (rs : List Receipt) → frames_of (map unnumbered rs) ≡ frames_of rs
 frames_plain [] = refl
-frames_plain (r ∷ rs) =
-    elim (cases_Bool (takes_frame r.event)) [
-      | inl e ↦ rw (e, frames_plain rs)
-      | inr e ↦ rw e (frames_plain rs)
-    ]
+frames_plain (r ∷ rs) = grind (arith, cases_Bool, frames_plain rs)
 
 -- ---- lines
 
@@ -83,27 +79,15 @@ all_named_long f g (line ∷ lines) =
 frame_more : (f g more : List ℕ) (nth : ℕ) → length f ≡ length g
     → get_or f nth no_frame ≡ get_or g nth no_frame
     → get_or (f ++ more) nth no_frame ≡ get_or (g ++ more) nth no_frame
-frame_more f g more nth long same =
-    elim (cases_lt nth (length f)) [
-      | inl before ↦
-          rw (get_or_append_left f more no_frame nth before)
-          (rw (get_or_append_left g more no_frame nth (omega (arith, before, long))) same)
-      | inr past ↦
-          get_or-append_right f more (length f) nth no_frame refl past
-          ∙ sym (get_or-append_right g more (length f) nth no_frame (sym long) past)
-    ]
+frame_more f g more nth long same = grind (arith, cases_lt, get_or_append_left, get_or-append_right)
 
 line_named : (a b : Known) (f g more : List ℕ) (line : Step) → is_mergeable_line line ≡ true
     → a.op ≡ b.op → a.frames ≡ f ++ more → b.frames ≡ g ++ more
     → frames_named f line ≡ frames_named g line → Agrees a b line
 line_named a b f g more (Ask event) merges op first second same = tt
-line_named a b f g more (Own (Latest work)) merges op first second same =
-    ap (λ (n : ℕ). step_work_of n work) op
+line_named a b f g more (Own (Latest work)) merges op first second same = grind arith
 line_named a b f g more (Own (Nth nth work)) merges op first second same = absurd cc
-line_named a b f g more (Own (Free nth)) merges op first second same =
-    let frame = frame_more f g more nth (ap (λ (xs : List ℕ). get_or xs 0 0) same)
-    (ap (λ (xs : List ℕ). get_or xs 1 0) same) in
-    rw (first, second, frame)
+line_named a b f g more (Own (Free nth)) merges op first second same = grind (arith, frame_more)
 line_named a b f g more (Carry plan turns) merges op first second same = tt
 
 pub all_named : (a b : Known) (f g more : List ℕ) (lines : List Step) → is_mergeable lines ≡ true
@@ -124,10 +108,7 @@ pub results_agree : (xs ys later : List Receipt) (lines : List Step) → is_merg
     → own_operation xs ≡ own_operation ys
     → flat_map (frames_named (frames_of xs)) lines ≡ flat_map (frames_named (frames_of ys)) lines
     → Agree (known_of (xs ++ later)) (known_of (ys ++ later)) lines
-results_agree xs ys later lines merges op same =
-    all_named (known_of (xs ++ later)) (known_of (ys ++ later)) (frames_of xs) (frames_of ys)
-    (frames_of later) lines merges (operation_more xs ys later op) (frames_more xs later)
-    (frames_more ys later) same
+results_agree xs ys later lines merges op same = grind (arith, all_named, operation_more, frames_more)
 
 -- ---- scripts that may be merged
 

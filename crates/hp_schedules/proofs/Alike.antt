@@ -5,7 +5,7 @@ use Rattle.std.specs.List.{range_with_len}
 use Rattle.std.proofs.lemmas.List.{map-append}
 use Rattle.std.proofs.lemmas.Option.{slice_get_within}
 use Rattle.std.proofs.lemmas.Simd.{map-map}
-use Rattle.hp_units.specs.History.{net_of, run, value_of}
+use Rattle.hp_units.specs.History.{run, value_of}
 use Rattle.hp_units.specs.LayoutParts.{LayoutParts}
 use Rattle.hp_units.specs.Memory.{Memory}
 use Rattle.hp_units.specs.declared.events.Event.{Event}
@@ -13,8 +13,8 @@ use Rattle.hp_units.specs.Receipts.{receipt_of, receipts_of}
 use Rattle.hp_units.specs.declared.replies.Receipt.{Receipt}
 use Rattle.hp_units.specs.declared.replies.Record.{Record}
 use Rattle.hp_units.specs.declared.replies.Reply.{Reply}
-use Rattle.hp_renumbering.specs.Renumbered.{renumbered, renumbered_event}
-use Rattle.hp_renumbering.proofs.Alike.{its_own, own_differ, own_event, own_memory}
+use Rattle.hp_laws.specs.Renumbered.{renumbered, renumbered_event}
+use Rattle.hp_laws.proofs.Alike.{its_own, own_differ, own_event, own_memory}
 use Rattle.hp_schedules.specs.Alike.{AreAlike, AreJoined, AreMergeable, exchanges, is_mergeable, unnumbered}
 use Rattle.hp_schedules.specs.Openings.{Opening, renumbered_opening}
 use Rattle.hp_schedules.specs.Continuing.{AreJoinedBy, AreSameBy, AreSameReceipts}
@@ -98,9 +98,7 @@ call_same g h k cpu all alike =
 -- a processor's exchanges with further records
 exchanged_on : (cpu : ℕ) (h more : List Record)
     → exchanges cpu (h ++ more) ≡ exchanges cpu h ++ exchanges cpu more
-exchanged_on cpu h more =
-    ap (map unnumbered) (receipts_later cpu h more)
-    ∙ map-append unnumbered (receipts_of cpu h) (receipts_of cpu more)
+exchanged_on cpu h more = grind (arith, receipts_later, map-append)
 
 -- records that are the same with the numbers that operations have
 own_record : (r s : Record) → IsSameRecord its_own its_own r s → r ≡ s
@@ -134,9 +132,7 @@ own_nets l base a b j = record {
 begun_on : (cpu : ℕ) (h k more : List Record)
     → own_operation (receipts_of cpu h) ≡ own_operation (receipts_of cpu k)
     → own_operation (receipts_of cpu (h ++ more)) ≡ own_operation (receipts_of cpu (k ++ more))
-begun_on cpu h k more same =
-    rw (receipts_later cpu h more, receipts_later cpu k more)
-    (operation_more (receipts_of cpu h) (receipts_of cpu k) (receipts_of cpu more) same)
+begun_on cpu h k more same = grind (arith, receipts_later, operation_more)
 
 pub record PlaysAlike (g : Setting) (k : List Record) (rest : List ℕ) (end : List Record) : Type 0 where
   pub other : List Record
@@ -152,25 +148,21 @@ played_alike g rest h k end all alike is = record {
   alike = record {
     calls = end_alike.calls;
     exchanged =
-        λ cpu within. ap (exchanges cpu) on.end_is
-        ∙ (exchanged_on cpu h on.more
+        λ cpu within. ap (exchanges cpu) on.end_is ∙ (exchanged_on cpu h on.more
         ∙ (ap (λ (xs : List Receipt). xs ++ exchanges cpu on.more) (alike.exchanged cpu within)
         ∙ sym (exchanged_on cpu k on.more)));
     begun =
         λ cpu within. ap (λ (news : List Record). own_operation (receipts_of cpu news)) on.end_is
-        ∙ begun_on cpu h k on.more (alike.begun cpu within);
-    nets =
-        own_nets g.layout g.base (net_of (g.start ++ end)) (net_of (g.start ++ (k ++ on.more)))
-        end_alike.nets;
+        ∙ begun_on _ h k on.more (alike.begun cpu within);
+    nets = own_nets _ _ _ _ end_alike.nets;
   };
 }
   where
     on : GoesOnAs its_own its_own g rest h k end
-    on =
-        goes_on_as its_own its_own own_differ own_differ g rest h k end all (same_alike g h k all alike) is
+    on = goes_on_as _ _ own_differ own_differ g _ h k _ all (same_alike g h k all alike) is
 
     same : on.more ≡ on.others
-    same = own_records on.more on.others on.same
+    same = own_records _ _ on.same
 
     end_alike : AreSameBy its_own its_own g end (k ++ on.more)
     end_alike =

@@ -22,7 +22,7 @@ use Rattle.hp_schedules.proofs.AfterLines.{after_more, all_over, first_then, lin
 use Rattle.hp_schedules.proofs.Asked.{at_first, lines_here}
 use Rattle.hp_schedules.proofs.Begun.{IsPush, none_before, push_cases, some_after}
 use Rattle.hp_schedules.proofs.LineAnswers.{answers_kept, answers_past, first_on, none_begun, without_is}
-use Rattle.hp_renumbering.proofs.Options.{cases_option}
+use Rattle.hp_laws.proofs.NumberedOptions.{cases_option}
 use Rattle.hp_schedules.proofs.OneCalls.{asks_once, finished_once}
 use Rattle.hp_schedules.proofs.UpTo.{before_many, here_at, past_end, up_to}
 
@@ -175,7 +175,7 @@ pub once_answered : (cpus : ℕ) (lines : List Step) (receipts : List Receipt) (
 once_answered cpus lines receipts r c e settles is off asked = by_place c.line refl
   where
     passed : after_lines cpus nothing_known (take c.line lines) (receipts ++ r ∷ []) ≡ Some []
-    passed = is.passed nothing_known ∙ ap Some (nothing_left cpus lines receipts r c e is off asked)
+    passed = is.passed nothing_known ∙ ap Some (nothing_left _ _ _ r c e is off asked)
 
     at : (k : ℕ) (line : Step) → c.line ≡ k + 1 → slice_get lines k ≡ Some line → is_one_call line ≡ true
         → after_lines cpus nothing_known (take k lines) receipts ≡ Some []
@@ -193,8 +193,7 @@ once_answered cpus lines receipts r c e settles is off asked = by_place c.line r
             ≡ answers_in cpus (take k lines) rs ++ answers_in cpus (line ∷ drop (k + 1) lines) left
         parts rs left passes =
             ap (λ (ls : List Step). answers_in cpus ls rs) (sym (take-append-drop k lines))
-            ∙ rw (answers_past cpus (take k lines) (drop k lines) rs left passes)
-            (rw (lines_here lines k line here))
+            ∙ rw (answers_past _ _ (drop k lines) _ _ passes) (rw (lines_here _ k _ here))
 
         old : answers_in cpus lines receipts ≡ answers_in cpus (take k lines) receipts
         old = rw (parts receipts [] before, none_begun cpus (line ∷ drop (k + 1) lines), append-nil)
@@ -213,8 +212,7 @@ once_answered cpus lines receipts r c e settles is off asked = by_place c.line r
             ≡ answers_in cpus (take k lines) receipts ++ Some (Replied r.reply) ∷ []
         new =
             let fed = lines_more cpus nothing_known (take k lines) receipts (r ∷ []) [] before in
-            rw (parts (receipts ++ r ∷ []) (r ∷ []) fed)
-            (rw (answers_kept cpus (take k lines) receipts (r ∷ []) [] before, one_more))
+            rw (parts _ _ fed) (rw (answers_kept cpus (take k lines) receipts (r ∷ []) [] before, one_more))
 
     by_place : (n : ℕ) → c.line ≡ n
         → Once c.line (answers_in cpus lines receipts) r (answers_in cpus lines (receipts ++ r ∷ []))
@@ -225,5 +223,4 @@ once_answered cpus lines receipts r c e settles is off asked = by_place c.line r
         let place : c.line ≡ k + 1 = omega (arith, next) in
         let line = get_some lines k (omega (arith, place, is.within)) in
         let one = settles off k line.0 place line.1 in
-        at k line.0 place line.1 one
-        (took_last cpus lines receipts r k line.0 line.1 one (rw place at passed))
+        at k _ place line.1 one (took_last _ _ _ r k _ line.1 one (rw place at passed))

@@ -1,12 +1,13 @@
 -- How many schedules there are of one of two kinds, and of those that continue another place.
 use Rattle.std.proofs.Common.{◌≡◌, ℕ, zero, suc, ◌+◌, List, [], ◌∷◌, ◌++◌, length, map, drop, Some, slice_get, refl, ap, sym, subst, ◌∙◌, arith, inl, inr}
 use Rattle.std.specs.Prelude.{◌⊎◌, option_map}
-use Rattle.std.proofs.lemmas.List.{length-map}
+use Rattle.std.proofs.lemmas.List.{append_cancel_left, length-map}
 use Rattle.std.proofs.lemmas.Option.{none-some, same_Some, slice_get-map}
 use Rattle.hp_schedules.specs.Orders.{Extends, HasCount}
 use Rattle.hp_schedules.proofs.Counting.{none_listed, same_count}
 use Rattle.hp_schedules.proofs.Counts.{one_more}
-use Rattle.hp_renumbering.proofs.Options.{cases_option}
+use Rattle.std.proofs.Math.Seq.{drop-append_seam}
+use Rattle.hp_laws.proofs.NumberedOptions.{cases_option}
 use Rattle.hp_schedules.proofs.Uniqueness.{only_count}
 
 -- ---- those of one kind among a list's
@@ -90,35 +91,47 @@ pub difference : (P Q : List ℕ → Type 0) (m t : ℕ) → ((s : List ℕ) →
     → HasCount (λ s. P s ⊎ Q s) t → (n : ℕ) × HasCount Q n × (m + n ≡ t)
 difference P Q m t apart some all = (
   sides.second,
-  same_count (λ s. IsIn all.0 s × Q s) Q sides.second (λ s h. h.1) (λ s q. (all.1.every s (inr q), q))
+  same_count _ Q _ (λ s h. h.1) (λ s q. (all.1.every s (inr q), q))
       sides.seconds,
   omega (arith, sides.both, all.2, as_many),
 )
   where
     sides : Sides P Q all.0
-    sides = sides_of P Q all.0 apart all.1.each all.1.once
+    sides = sides_of P Q _ apart all.1.each all.1.once
 
     as_many : sides.first ≡ m
     as_many =
-        only_count P sides.first m (same_count (λ s. IsIn all.0 s × P s) P sides.first (λ s h. h.1)
-        (λ s p. (all.1.every s (inl p), p)) sides.firsts) some
+        only_count P _ m (same_count _ P _ (λ s h. h.1) (λ s p. (all.1.every s (inl p), p)) sides.firsts) some
 
 -- ---- those that continue another place alike
-
-after : (p rest : List ℕ) → drop (length p) (p ++ rest) ≡ rest
-after [] rest = refl
-after (c ∷ p) rest = after p rest
-
-left_out : (q s t : List ℕ) → q ++ s ≡ q ++ t → s ≡ t
-left_out [] s t h = h
-left_out (c ∷ q) s t h = let same : q ++ s ≡ q ++ t = cc in left_out q s t same
 
 pub moved : (P Q : List ℕ → Type 0) (p q : List ℕ) (n : ℕ) → ((rest : List ℕ) → P (p ++ rest) → Q (q ++ rest))
     → ((rest : List ℕ) → Q (q ++ rest) → P (p ++ rest)) → HasCount (λ s. Extends s p × P s) n
     → HasCount (λ s. Extends s q × Q s) n
 moved P Q p q n to from counted = (
   map shift counted.0,
-  record { each = each; every = every; once = once },
+  record {
+    each = λ i s h.
+        let at = shown i s h in
+        let of = counted.1.each i at.0 at.2 in
+        let is : s ≡ q ++ of.0.0 = sym at.1 ∙ shifted _ _ of.0.1 in
+        ((of.0.0, is), subst Q (sym is) (to of.0.0 (subst P of.0.1 of.1)));
+    every = λ s h.
+        let at = counted.1.every (p ++ h.0.0) ((h.0.0, refl), from h.0.0 (subst Q h.0.1 h.1)) in (
+          at.0,
+          slice_get-map shift counted.0 at.0
+              ∙ (ap (option_map shift) at.1 ∙ ap Some (shifted (p ++ h.0.0) h.0.0 refl ∙ sym h.0.1)),
+        );
+    once = λ i j s h k.
+        let a = shown i s h in
+        let b = shown j s k in
+        let x = counted.1.each i a.0 a.2 in
+        let y = counted.1.each j b.0 b.2 in
+        let same : x.0.0 ≡ y.0.0 =
+        append_cancel_left q x.0.0 y.0.0 (sym (shifted _ _ x.0.1) ∙ (a.1 ∙ (sym b.1 ∙ shifted _ _ y.0.1))) in
+        let both : b.0 ≡ a.0 = y.0.1 ∙ (ap (λ (rest : List ℕ). p ++ rest) (sym same) ∙ sym x.0.1) in
+        counted.1.once i j a.0 a.2 (b.2 ∙ ap Some both);
+  },
   length-map counted.0 shift ∙ counted.2,
 )
   where
@@ -126,7 +139,7 @@ moved P Q p q n to from counted = (
     shift s = q ++ drop (length p) s
 
     shifted : (s rest : List ℕ) → s ≡ p ++ rest → shift s ≡ q ++ rest
-    shifted s rest is = rw (is, after p rest)
+    shifted s rest is = rw (is, drop-append_seam p rest)
 
     shown : (i : ℕ) (s : List ℕ) → slice_get (map shift counted.0) i ≡ Some s
         → (t : List ℕ) × (shift t ≡ s) × (slice_get counted.0 i ≡ Some t)
@@ -134,31 +147,3 @@ moved P Q p q n to from counted = (
       | inl none ↦ absurd (none-some s (rw (slice_get-map shift counted.0 i, none) at h))
       | inr t ↦ (t.0, same_Some (shift t.0) s (rw (slice_get-map shift counted.0 i, t.1) at h), t.1)
     ]
-
-    each : (i : ℕ) (s : List ℕ) → slice_get (map shift counted.0) i ≡ Some s → Extends s q × Q s
-    each i s h =
-        let at = shown i s h in
-        let of = counted.1.each i at.0 at.2 in
-        let is : s ≡ q ++ of.0.0 = sym at.1 ∙ shifted at.0 of.0.0 of.0.1 in
-        ((of.0.0, is), subst Q (sym is) (to of.0.0 (subst P of.0.1 of.1)))
-
-    every : (s : List ℕ) → Extends s q × Q s → (i : ℕ) × (slice_get (map shift counted.0) i ≡ Some s)
-    every s h =
-        let at = counted.1.every (p ++ h.0.0) ((h.0.0, refl), from h.0.0 (subst Q h.0.1 h.1)) in (
-          at.0,
-          slice_get-map shift counted.0 at.0
-              ∙ (ap (option_map shift) at.1 ∙ ap Some (shifted (p ++ h.0.0) h.0.0 refl ∙ sym h.0.1)),
-        )
-
-    once : (i j : ℕ) (s : List ℕ) → slice_get (map shift counted.0) i ≡ Some s
-        → slice_get (map shift counted.0) j ≡ Some s → i ≡ j
-    once i j s h k =
-        let a = shown i s h in
-        let b = shown j s k in
-        let x = counted.1.each i a.0 a.2 in
-        let y = counted.1.each j b.0 b.2 in
-        let same : x.0.0 ≡ y.0.0 =
-        left_out q x.0.0 y.0.0
-        (sym (shifted a.0 x.0.0 x.0.1) ∙ (a.1 ∙ (sym b.1 ∙ shifted b.0 y.0.0 y.0.1))) in
-        let both : b.0 ≡ a.0 = y.0.1 ∙ (ap (λ (rest : List ℕ). p ++ rest) (sym same) ∙ sym x.0.1) in
-        counted.1.once i j a.0 a.2 (b.2 ∙ ap Some both)

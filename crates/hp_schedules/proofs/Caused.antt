@@ -182,10 +182,9 @@ later_alike cpus (Carry plan turns ∷ lines) xs ys later others d e key x_at y_
 
     by_end : (b : Bool) → is_over d.stage ≡ b → Later cpus (Carry plan turns ∷ lines) xs ys later others
     by_end true ended =
-        from_over cpus (Carry plan turns) lines xs ys later others
-        (over xs d x_at (asks_none d.stage plan ended))
-        (over ys e y_at (asks_none e.stage plan (sym (over_same d.stage e.stage key.stage) ∙ ended))) are
-    by_end false on = from_on cpus turns plan lines xs ys later others d e key x_at y_at same on are
+        from_over _ _ lines _ _ _ _ (over _ d x_at (asks_none _ plan ended)) (over _ e y_at
+        (asks_none _ plan (sym (over_same _ _ key.stage) ∙ ended))) are
+    by_end false on = from_on _ _ _ _ _ _ _ _ d e key x_at y_at same on are
 
 -- ---- scripts
 

@@ -12,7 +12,7 @@ use Rattle.hp_units.specs.declared.replies.Record.{Record}
 use Rattle.hp_laws.proofs.Records.{with_good}
 use Rattle.hp_laws.proofs.Replays.{net_bad}
 use Rattle.hp_schedules.specs.Alike.{IsClosed, closed_after, closed_by, is_closed}
-use Rattle.hp_renumbering.proofs.Options.{cases_option}
+use Rattle.hp_laws.proofs.NumberedOptions.{cases_option}
 
 -- a place further on
 further_on : (n m : ℕ) (o : Option ℕ) → n + 1 ≡ m
@@ -41,9 +41,7 @@ passed op r tail is = rw is
 -- so such a step keeps them closed
 pub closed_push : (a : List Record) (r : Record) → is_opening (mark_of r.event) ≡ false → IsClosed a
     → IsClosed (a ++ r ∷ [])
-closed_push a r is closed op tail =
-    rw (append_assoc a (r ∷ []) tail, closed op (r ∷ tail), passed op r tail is)
-    (further_on (length a) (length (a ++ r ∷ [])) (sole_at op (map tag_of tail)) (sym (length_push a r)))
+closed_push a r is closed op tail = grind (arith, append_assoc, passed, further_on, length_push)
 
 -- a step of no operation is no operation's own work
 not_own : (op : ℕ) (a : List Record) (r : Record) (tail : List Record) → mark_of r.event ≡ Other
@@ -56,9 +54,7 @@ sole_after : (op : ℕ) (a : List Record) (r : Record) (tail : List Record) → 
     → sole_at op (map tag_of (a ++ r ∷ tail))
     ≡ option_map (λ place. length (a ++ r ∷ []) + place) (sole_at op (map tag_of tail))
 unfolding sole_at
-sole_after op [] r tail is =
-    rw (passed op r tail (ap is_opening is)) (elim (cases_option (sole_at op (map tag_of tail)))
-    [ inl none ↦ rw none | inr place ↦ rw place.1 (ap Some (omega arith)) ])
+sole_after op [] r tail is = grind (arith, passed, cases_option)
 sole_after op (t ∷ a) r tail is =
     rw (not_own op a r tail is, and_false (begins op (tag_of t)), sole_after op a r tail is)
     (elim (cases_option (sole_at op (map tag_of tail)))

@@ -25,9 +25,7 @@ only_one ns a b is also =
 
 -- with no turn of a further processor it is the same
 pub with_none : (ns : List ℕ) (m : ℕ) → IsMultinomial ns m → IsMultinomial (ns ++ 0 ∷ []) m
-with_none ns m is =
-    let same : sum ns + 0 ≡ sum ns = omega arith in
-    rw (factorials_push ns 0, sum_by_push (λ (n : ℕ). n) ns 0, same) (omega (arith, is))
+with_none ns m is = grind (arith, factorials_push, sum_by_push)
 
 -- with one turn more
 abbrev pub IsNext : List ℕ → (turns m next : ℕ) → Type 0
@@ -54,9 +52,7 @@ next_one ns turns m is =
 
 -- which is no less
 next_up : (ns : List ℕ) (turns m next : ℕ) → IsNext ns turns m next → m ≤ next
-next_up ns turns m next is =
-    let le : suc turns ≤ suc (sum ns + turns) = omega arith in
-    le_of_mul-le-mul_right (rw (← is.1) at (mul-le-mul_left m le)) (omega arith)
+next_up ns turns m next is = grind (arith, le_of_mul-le-mul_right, mul-le-mul_left)
 
 -- and is found by a division
 pub next_found : (ns : List ℕ) (turns m next total : ℕ) → sum ns ≡ total → IsNext ns turns m next
@@ -67,9 +63,7 @@ next_found ns turns m next total all is =
 -- with more turns it is no less
 turns_up : (ns : List ℕ) (more turns all a b : ℕ) → all ≡ turns + more → IsMultinomial (ns ++ turns ∷ []) a
     → IsMultinomial (ns ++ all ∷ []) b → a ≤ b
-turns_up ns zero turns all a b whole is also =
-    let same : all ≡ turns = omega arith in
-    omega (arith, only_one (ns ++ turns ∷ []) a b is (rw same at also))
+turns_up ns zero turns all a b whole is also = grind (arith, only_one)
 turns_up ns (suc more) turns all a b whole is also =
     let next = next_one ns turns a is in
     omega (

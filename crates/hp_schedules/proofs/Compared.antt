@@ -22,12 +22,9 @@ told_at : (cpu : ℕ) (news : List Record) (k : ℕ) (r : Record) → slice_get 
     → eqb r.cpu cpu ≡ true
     → slice_get (replies_to cpu news) (length (replies_to cpu (take k news))) ≡ Some (told r.reply)
 told_at cpu [] k r here own = absurd cc
-told_at cpu (x ∷ news) zero r here own =
-    rw (ap (λ (q : Record). eqb q.cpu cpu) (same_Some x r here) ∙ own)
-    (ap (λ (q : Record). Some (told q.reply)) (same_Some x r here))
+told_at cpu (x ∷ news) zero r here own = grind (arith, same_Some)
 told_at cpu (x ∷ news) (suc k) r here own =
-    elim (cases_Bool (eqb x.cpu cpu))
-    [ inl e ↦ rw e (told_at cpu news k r here own) | inr e ↦ rw e (told_at cpu news k r here own) ]
+    grind (arith, cases_Bool, told_at cpu news k r here own, told_at cpu news k r here own)
 
 -- ---- as they are compared
 
@@ -49,8 +46,7 @@ replies_own cpu replies news k r here own so_far =
 pub told_past : (cpu : ℕ) (replies : List Reply) (news : List Record) (n k : ℕ) (r : Record)
     → slice_get news k ≡ Some r → eqb r.cpu cpu ≡ false → take n replies ≡ replies_to cpu (take k news)
     → take n replies ≡ replies_to cpu (take (k + 1) news)
-told_past cpu replies news n k r here other so_far =
-    replies_past cpu (take n replies) news k r here other so_far
+told_past cpu replies news n k r here other so_far = replies_past _ _ _ k r here other so_far
 
 -- its own tells the next one
 pub told_more : (cpu : ℕ) (replies : List Reply) (news : List Record) (n k : ℕ) (r : Record)
@@ -81,10 +77,7 @@ pub answered_at : (answers : List (List Reply)) (news : List Record) (processors
     (replies : List Reply)
     → cpu < processors → replies ≡ get_or answers cpu replies → answers ≡ replies_below processors news
     → replies ≡ replies_to cpu news
-answered_at answers news processors cpu replies within here is =
-    here
-    ∙ rw is (get_or-map-range_with_len (λ (c : ℕ). replies_to c news) 0 processors cpu cpu replies within
-    (omega arith))
+answered_at answers news processors cpu replies within here is = grind (arith, get_or-map-range_with_len)
 
 -- one list more
 pub answered_more : (answers : List (List Reply)) (news : List Record) (cpu : ℕ) (replies : List Reply)

@@ -8,14 +8,14 @@ use Rattle.hp_units.specs.Memory.{Memory}
 use Rattle.hp_units.specs.declared.events.Event.{Event}
 use Rattle.hp_units.specs.declared.replies.Record.{Record}
 use Rattle.hp_units.specs.declared.rows.Row.{Row}
-use Rattle.hp_renumbering.specs.Renumbered.{IsOneToOne, renumbered, renumbered_event, renumbered_row}
-use Rattle.hp_renumbering.proofs.Alike.{unseen_same}
+use Rattle.hp_laws.specs.Renumbered.{IsOneToOne, renumbered, renumbered_event, renumbered_row}
+use Rattle.hp_laws.proofs.Alike.{unseen_same}
 use Rattle.hp_schedules.specs.Alike.{AreMergeable}
 use Rattle.hp_schedules.specs.Continuing.{AreSameBy, ContinueAlike, ContinuesAs, anonymous, anonymous_record, renumbered_events}
 use Rattle.hp_schedules.specs.Outcomes.{ended_row, ended_rows_below}
 use Rattle.hp_schedules.specs.Schedules.{Setting, next_call, play_one, plays, record_of_call}
 use Rattle.hp_schedules.proofs.JoinedBy.{IsSameRecord}
-use Rattle.hp_renumbering.proofs.Options.{cases_option}
+use Rattle.hp_laws.proofs.NumberedOptions.{cases_option}
 use Rattle.hp_schedules.proofs.SameCalls.{call_leaves, call_same, event_kept, record_same, same_more}
 use Rattle.hp_schedules.proofs.Plays.{from_news, plays_on, recorded, stays_none}
 
@@ -154,12 +154,11 @@ continues_as g p q rest h k end all first second alike whole = record {
   end_is = on.end_is;
   played =
       plays_on g q rest ∙ (ap (λ (o : Option (List Record)). fold (play_one g) o rest) second ∙ on.played);
-  same = records_anonymous alike.first_numbers alike.second_numbers on.more on.others on.same;
-  events = events_same alike.first_numbers alike.second_numbers on.more on.others on.same;
+  same = records_anonymous _ _ _ _ on.same;
+  events = events_same _ _ _ _ on.same;
   after = on.alike;
-  calls = λ cpu. calls_anonymous alike.first_numbers alike.second_numbers (next_call g cpu end)
-      (next_call g cpu (k ++ on.others))
-      (call_same alike.first_numbers alike.second_numbers g end (k ++ on.others) cpu on.alike);
+  calls = λ cpu. calls_anonymous _ _ _
+      _ (call_same _ _ g _ _ cpu on.alike);
   rows = λ blocks.
       sym (rows_same alike.first_numbers (run g.layout g.base (net_of (g.start ++ end))) blocks)
       ∙ (ap (ended_rows_below blocks) on.alike.nets.state
@@ -168,5 +167,5 @@ continues_as g p q rest h k end all first second alike whole = record {
   where
     on : GoesOnAs alike.first_numbers alike.second_numbers g rest h k end
     on =
-        goes_on_as alike.first_numbers alike.second_numbers alike.first_differ alike.second_differ g rest h k
-        end all alike.same (plays_from g p rest h end first whole)
+        goes_on_as _ _ alike.first_differ alike.second_differ g _ h k
+        _ all alike.same (plays_from g p _ h _ first whole)

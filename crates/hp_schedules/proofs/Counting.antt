@@ -18,25 +18,16 @@ pub either_listed : (P Q : List ℕ → Type 0) (m n : ℕ) → ((s : List ℕ) 
     → HasCount Q n → HasCount (λ s. P s ⊎ Q s) (m + n)
 either_listed P Q m n apart p q = (
   p.0 ++ q.0,
-  record { each = each; every = every; once = once },
-  rw (length-append, p.2, q.2),
-)
-  where
-    each : (i : ℕ) (s : List ℕ) → slice_get (p.0 ++ q.0) i ≡ Some s → P s ⊎ Q s
-    each i s h =
+  record {
+    each = λ i s h.
         elim (get_append_cases p.0 q.0 i s h)
-        [ inl e ↦ inl (p.1.each i s e) | inr e ↦ inr (q.1.each e.place s e.here) ]
-
-    every : (s : List ℕ) → P s ⊎ Q s → (i : ℕ) × (slice_get (p.0 ++ q.0) i ≡ Some s)
-    every s h =
+        [ inl e ↦ inl (p.1.each i s e) | inr e ↦ inr (q.1.each e.place s e.here) ];
+    every = λ s h.
         elim h [
           | inl a ↦ (let at = p.1.every s a in (at.0, get_longer p.0 q.0 at.0 s at.1))
           | inr b ↦ (let at = q.1.every s b in (length p.0 + at.0, get_right p.0 q.0 at.0 ∙ at.1))
-        ]
-
-    once : (i j : ℕ) (s : List ℕ) → slice_get (p.0 ++ q.0) i ≡ Some s → slice_get (p.0 ++ q.0) j ≡ Some s
-        → i ≡ j
-    once i j s h k =
+        ];
+    once = λ i j s h k.
         elim (get_append_cases p.0 q.0 i s h) [
           | inl e ↦ elim (get_append_cases p.0 q.0 j s k) [
             | inl f ↦ p.1.once i j s e f
@@ -46,7 +37,10 @@ either_listed P Q m n apart p q = (
             | inl f ↦ absurd (apart s (p.1.each j s f) (q.1.each e.place s e.here))
             | inr f ↦ omega (arith, e.sum, f.sum, q.1.once e.place f.place s e.here f.here)
           ]
-        ]
+        ];
+  },
+  rw (length-append, p.2, q.2),
+)
 
 -- of those of a kind, with one processor more in front
 abbrev pub Fronted : (cpu : ℕ) → (List ℕ → Type 0) → List ℕ → Type 0
@@ -55,7 +49,14 @@ Fronted cpu P s = (t : List ℕ) × (s ≡ cpu ∷ t) × P t
 pub fronted_listed : (cpu : ℕ) (P : List ℕ → Type 0) (n : ℕ) → HasCount P n → HasCount (Fronted cpu P) n
 fronted_listed cpu P n p = (
   map (λ t. cpu ∷ t) p.0,
-  record { each = each; every = every; once = once },
+  record {
+    each = λ i s h. let at = shown i s h in (at.0, at.1, p.1.each i at.0 at.2);
+    every = λ s h. let at = p.1.every h.0 h.2 in (at.0, rw (slice_get-map, at.1, h.1));
+    once = λ i j s h k.
+        let a = shown i s h in
+        let b = shown j s k in
+        p.1.once i j a.0 a.2 cc;
+  },
   length-map p.0 (λ t. cpu ∷ t) ∙ p.2,
 )
   where
@@ -64,19 +65,6 @@ fronted_listed cpu P n p = (
     shown i s h = elim (slice_get p.0 i) as (λ o. option_map (λ t. cpu ∷ t) o ≡ Some s
         → (t : List ℕ) × (s ≡ cpu ∷ t) × (o ≡ Some t))
         [ None ↦ λ e. absurd cc | Some t ↦ λ e. (t, cc, refl) ] (sym (slice_get-map (λ t. cpu ∷ t) p.0 i) ∙ h)
-
-    each : (i : ℕ) (s : List ℕ) → slice_get (map (λ t. cpu ∷ t) p.0) i ≡ Some s → Fronted cpu P s
-    each i s h = let at = shown i s h in (at.0, at.1, p.1.each i at.0 at.2)
-
-    every : (s : List ℕ) → Fronted cpu P s → (i : ℕ) × (slice_get (map (λ t. cpu ∷ t) p.0) i ≡ Some s)
-    every s h = let at = p.1.every h.0 h.2 in (at.0, rw (slice_get-map, at.1, h.1))
-
-    once : (i j : ℕ) (s : List ℕ) → slice_get (map (λ t. cpu ∷ t) p.0) i ≡ Some s
-        → slice_get (map (λ t. cpu ∷ t) p.0) j ≡ Some s → i ≡ j
-    once i j s h k =
-        let a = shown i s h in
-        let b = shown j s k in
-        p.1.once i j a.0 a.2 cc
 
 -- none
 pub none_listed : (P : List ℕ → Type 0) → ((s : List ℕ) → P s → ⊥) → HasCount P 0

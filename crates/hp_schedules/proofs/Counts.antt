@@ -5,6 +5,7 @@ use Rattle.std.proofs.lemmas.List.{length_push}
 use Rattle.std.proofs.lemmas.List.Sums.{sum_by_push, sum_by-set}
 use Rattle.std.proofs.lemmas.Option.{slice_get_within, get_or_from_slice_get}
 use Rattle.std.proofs.lemmas.Bool.{cases_eq}
+use Rattle.hp_units.proofs.Tables.{get_set}
 use Rattle.hp_laws.proofs.Lists.{get_push_cases, get_end}
 use Rattle.hp_schedules.specs.declared.tally.Ending.{Ending}
 use Rattle.hp_schedules.specs.Ends.{AreCounted}
@@ -30,9 +31,7 @@ get_set_cases (z ∷ xs) (suc k) y (suc j) x h =
 
 pub get_set_here : {A : Type 0} (xs : List A) (k : ℕ) (y : A) → k < length xs
     → slice_get (set xs k y) k ≡ Some y
-get_set_here [] k y h = absurd (omega arith)
-get_set_here (z ∷ xs) zero y h = refl
-get_set_here (z ∷ xs) (suc k) y h = get_set_here xs k y (omega arith)
+get_set_here xs k y h = get_set xs k y h
 
 pub get_set_other : {A : Type 0} (xs : List A) (k : ℕ) (y : A) (j : ℕ) (x : A) → (j ≡ k → ⊥)
     → slice_get xs j ≡ Some x → slice_get (set xs k y) j ≡ Some x
@@ -49,37 +48,29 @@ get_set_other (z ∷ xs) (suc k) y (suc j) x differs h =
 pub one_more : (P : List ℕ → Type 0) (n : ℕ) (p : List ℕ) → (P p → ⊥) → HasCount P n
     → HasCount (λ s. P s ⊎ (s ≡ p)) (n + 1)
 one_more P n p new counted = (
-  all ++ p ∷ [],
-  record { each = each; every = every; once = once },
-  length_push all p ∙ ap (λ (k : ℕ). k + 1) counted.2,
-)
-  where
-    all : List (List ℕ)
-    all = counted.0
-
-    each : (i : ℕ) (s : List ℕ) → slice_get (all ++ p ∷ []) i ≡ Some s → P s ⊎ (s ≡ p)
-    each i s h =
-        elim (get_push_cases all p s i h) [ inl e ↦ inl (counted.1.each i s e) | inr e ↦ inr (sym e.1) ]
-
-    every : (s : List ℕ) → P s ⊎ (s ≡ p) → (i : ℕ) × (slice_get (all ++ p ∷ []) i ≡ Some s)
-    every s h =
+  counted.0 ++ p ∷ [],
+  record {
+    each = λ i s h.
+        elim (get_push_cases counted.0 p s i h)
+        [ inl e ↦ inl (counted.1.each i s e) | inr e ↦ inr (sym e.1) ];
+    every = λ s h.
         elim h [
-          | inl old ↦ (let at = counted.1.every s old in (at.0, get_longer all (p ∷ []) at.0 s at.1))
-          | inr same ↦ (length all, rw same (get_end all p))
-        ]
-
-    once : (i j : ℕ) (s : List ℕ) → slice_get (all ++ p ∷ []) i ≡ Some s
-        → slice_get (all ++ p ∷ []) j ≡ Some s → i ≡ j
-    once i j s h k =
-        elim (get_push_cases all p s i h) [
-          | inl e ↦ elim (get_push_cases all p s j k) [
+          | inl old ↦ (let at = counted.1.every s old in (at.0, get_longer counted.0 (p ∷ []) at.0 s at.1))
+          | inr same ↦ (length counted.0, rw same (get_end counted.0 p))
+        ];
+    once = λ i j s h k.
+        elim (get_push_cases counted.0 p s i h) [
+          | inl e ↦ elim (get_push_cases counted.0 p s j k) [
             | inl f ↦ counted.1.once i j s e f
             | inr f ↦ absurd (new (rw f.1 (counted.1.each i s e)))
           ]
           | inr e ↦
-              elim (get_push_cases all p s j k)
+              elim (get_push_cases counted.0 p s j k)
               [ inl f ↦ absurd (new (rw e.1 (counted.1.each j s f))) | inr f ↦ e.0 ∙ sym f.0 ]
-        ]
+        ];
+  },
+  length_push counted.0 p ∙ ap (λ (k : ℕ). k + 1) counted.2,
+)
 
 -- more than so many: those of a kind and one that is not
 pub more_than : (P Q : List ℕ → Type 0) (n : ℕ) (p : List ℕ) → (P p → ⊥) → ((s : List ℕ) → P s → Q s) → Q p
@@ -135,19 +126,19 @@ total_more : (E : List ℕ → OutcomeValue → Type 0) (p : List ℕ) (x : Outc
     → ((y : OutcomeValue) → E p y → ⊥) → HasCount (λ s. (y : OutcomeValue) × E s y) n
     → HasCount (λ s. (y : OutcomeValue) × With E p x s y) (n + 1)
 total_more E p x n new counted =
-    same_count (λ s. ((y : OutcomeValue) × E s y) ⊎ (s ≡ p)) (λ s. (y : OutcomeValue) × With E p x s y)
-    (n + 1) (λ s h. elim h [ inl e ↦ (e.0, inl e.1) | inr same ↦ (x, inr (same, refl)) ])
-    (λ s h. elim h.1 [ inl e ↦ inl (h.0, e) | inr same ↦ inr same.0 ])
-    (one_more (λ s. (y : OutcomeValue) × E s y) n p (λ h. new h.0 h.1) counted)
+    same_count _ (λ s. (y : OutcomeValue) × With E p x s y) _ (λ s h. elim h [
+      | inl e ↦ (e.0, inl e.1)
+      | inr
+          same ↦ (x, inr (same, refl))
+    ]) (λ s h. elim h.1 [ inl e ↦ inl (h.0, e) | inr same ↦ inr same.0 ])
+    (one_more _ n p (λ h. new h.0 h.1) counted)
 
 -- an end's count with one more schedule of that end
 count_more : (E : List ℕ → OutcomeValue → Type 0) (p : List ℕ) (x y : OutcomeValue) (n : ℕ) → (E p y → ⊥)
     → y ≡ x → HasCount (λ s. E s y) n → HasCount (λ s. With E p x s y) (n + 1)
 count_more E p x y n new same counted =
-    same_count (λ s. E s y ⊎ (s ≡ p)) (λ s. With E p x s y) (n + 1)
-    (λ s h. elim h [ inl e ↦ inl e | inr at ↦ inr (at, same) ])
-    (λ s h. elim h [ inl e ↦ inl e | inr at ↦ inr at.0 ])
-    (one_more (λ s. E s y) n p new counted)
+    same_count _ (λ s. With E p x s y) _ (λ s h. elim h [ inl e ↦ inl e | inr at ↦ inr (at, same) ])
+    (λ s h. elim h [ inl e ↦ inl e | inr at ↦ inr at.0 ]) (one_more _ n p new counted)
 
 -- an end's count with one more schedule of another end
 count_same : (E : List ℕ → OutcomeValue → Type 0) (p : List ℕ) (x y : OutcomeValue) (n : ℕ) → (y ≡ x → ⊥)
@@ -188,38 +179,44 @@ noted_again : (E : List ℕ → OutcomeValue → Type 0) (p : List ℕ) (x : Out
     → AreCounted (With E p x) new
 noted_again E p x old new ok before adds =
     rw adds.new_is
-    (record { counts = counts; firsts = firsts; every = every; apart = apart; total = total })
+    (record {
+      counts = λ k e h.
+          elim (get_set_cases old adds.at adds.more k e h) [
+            | inl here ↦
+                rw (← here.1, adds.outcome_is, adds.count)
+                (count_more E p x adds.entry.outcome adds.entry.count (unseen adds.entry.outcome) adds.same
+                (ok.counts adds.at adds.entry adds.here))
+            | inr there ↦
+                count_same E p x e.outcome e.count
+                (λ same. there.0 (ok.apart k adds.at e adds.entry there.1 adds.here (same ∙ sym adds.same)))
+                (ok.counts k e there.1)
+          ];
+      firsts = λ k e h.
+          elim (get_set_cases old adds.at adds.more k e h) [
+            | inl here ↦
+                rw (← here.1, adds.outcome_is, adds.first)
+                (first_same E p adds.entry.first.items x adds.entry.outcome before
+                (ok.firsts adds.at adds.entry adds.here))
+            | inr there ↦ first_same E p e.first.items x e.outcome before (ok.firsts k e there.1)
+          ];
+      every = λ s y h.
+          let stays = end_stays old adds.at adds.entry adds.more adds.here adds.outcome_is in
+          elim h [
+            | inl old_one ↦ (let at = ok.every s y old_one in stays at.0 at.1 y at.2 at.3)
+            | inr new_one ↦ stays adds.at adds.entry y adds.here (adds.same ∙ sym new_one.1)
+          ];
+      apart = λ i j e f h k same.
+          let a = later_at i e h in
+          let b = later_at j f k in
+          ok.apart i j a.0 b.0 a.1 b.1 (a.2 ∙ (same ∙ sym b.2));
+      total = rw sum (total_more E p x (sum_by (λ (e : Ending). e.count) old) unseen ok.total);
+    })
   where
     unseen : (y : OutcomeValue) → E p y → ⊥
     unseen y h = not_before_itself p (before p y h)
 
     later : List Ending
     later = set old adds.at adds.more
-
-    counts : (k : ℕ) (e : Ending) → slice_get later k ≡ Some e
-        → HasCount (λ s. With E p x s e.outcome) e.count
-    counts k e h =
-        elim (get_set_cases old adds.at adds.more k e h) [
-          | inl here ↦
-              rw (← here.1, adds.outcome_is, adds.count)
-              (count_more E p x adds.entry.outcome adds.entry.count (unseen adds.entry.outcome) adds.same
-              (ok.counts adds.at adds.entry adds.here))
-          | inr there ↦
-              count_same E p x e.outcome e.count
-              (λ same. there.0 (ok.apart k adds.at e adds.entry there.1 adds.here (same ∙ sym adds.same)))
-              (ok.counts k e there.1)
-        ]
-
-    firsts : (k : ℕ) (e : Ending) → slice_get later k ≡ Some e
-        → IsFirst (λ s. With E p x s e.outcome) e.first.items
-    firsts k e h =
-        elim (get_set_cases old adds.at adds.more k e h) [
-          | inl here ↦
-              rw (← here.1, adds.outcome_is, adds.first)
-              (first_same E p adds.entry.first.items x adds.entry.outcome before
-              (ok.firsts adds.at adds.entry adds.here))
-          | inr there ↦ first_same E p e.first.items x e.outcome before (ok.firsts k e there.1)
-        ]
 
     later_at : (k : ℕ) (e : Ending) → slice_get later k ≡ Some e
         → (f : Ending) × (slice_get old k ≡ Some f) × (f.outcome ≡ e.outcome)
@@ -228,22 +225,6 @@ noted_again E p x old new ok before adds =
           | inl here ↦ (adds.entry, rw here.0 adds.here, rw (← here.1) (sym adds.outcome_is))
           | inr there ↦ (e, there.1, refl)
         ]
-
-    every : (s : List ℕ) (y : OutcomeValue) → With E p x s y
-        → (k : ℕ) × (e : Ending) × (slice_get later k ≡ Some e) × (e.outcome ≡ y)
-    every s y h =
-        let stays = end_stays old adds.at adds.entry adds.more adds.here adds.outcome_is in
-        elim h [
-          | inl old_one ↦ (let at = ok.every s y old_one in stays at.0 at.1 y at.2 at.3)
-          | inr new_one ↦ stays adds.at adds.entry y adds.here (adds.same ∙ sym new_one.1)
-        ]
-
-    apart : (i j : ℕ) (e f : Ending) → slice_get later i ≡ Some e → slice_get later j ≡ Some f
-        → e.outcome ≡ f.outcome → i ≡ j
-    apart i j e f h k same =
-        let a = later_at i e h in
-        let b = later_at j f k in
-        ok.apart i j a.0 b.0 a.1 b.1 (a.2 ∙ (same ∙ sym b.2))
 
     sum : sum_by (λ (e : Ending). e.count) later ≡ sum_by (λ (e : Ending). e.count) old + 1
     sum =
@@ -255,80 +236,57 @@ noted_again E p x old new ok before adds =
           adds.count,
         )
 
-    total : HasCount (λ s. (y : OutcomeValue) × With E p x s y) (sum_by (λ (e : Ending). e.count) later)
-    total = rw sum (total_more E p x (sum_by (λ (e : Ending). e.count) old) unseen ok.total)
-
 -- one schedule more, whose end is new
 noted_first : (E : List ℕ → OutcomeValue → Type 0) (p : List ℕ) (x : OutcomeValue) (old new : List Ending)
     → AreCounted E old → ((s : List ℕ) (y : OutcomeValue) → E s y → IsBefore s p) → AddsEnd old x p new
     → AreCounted (With E p x) new
 noted_first E p x old new ok before adds =
     rw adds.new_is
-    (record { counts = counts; firsts = firsts; every = every; apart = apart; total = total })
+    (record {
+      counts = λ k e h.
+          elim (get_push_cases old adds.entry e k h) [
+            | inl there ↦
+                count_same E p x e.outcome e.count (λ same. adds.none k e there same) (ok.counts k e there)
+            | inr here ↦
+                rw (← here.1, adds.outcome_is, adds.count)
+                (count_more E p x x 0 (unseen x) refl (none_listed (λ s. E s x) fresh))
+          ];
+      firsts = λ k e h.
+          elim (get_push_cases old adds.entry e k h) [
+            | inl there ↦ first_same E p e.first.items x e.outcome before (ok.firsts k e there)
+            | inr here ↦ rw (← here.1, adds.outcome_is, adds.first) (record {
+              holds = inr (refl, refl);
+              earliest = λ t h. elim h [ inl e ↦ absurd (fresh t e) | inr at ↦ inl at.0 ];
+            })
+          ];
+      every = λ s y h.
+          elim h [
+            | inl old_one ↦
+                (let at = ok.every s y old_one in
+                (at.0, at.1, get_longer old (adds.entry ∷ []) at.0 at.1 at.2, at.3))
+            | inr new_one ↦ (length old, adds.entry, get_end old adds.entry, adds.outcome_is ∙ sym new_one.1)
+          ];
+      apart = λ i j e f h k same.
+          elim (get_push_cases old adds.entry e i h) [
+            | inl a ↦ elim (get_push_cases old adds.entry f j k) [
+              | inl b ↦ ok.apart i j e f a b same
+              | inr b ↦ absurd (adds.none i e a cc)
+            ]
+            | inr a ↦ elim (get_push_cases old adds.entry f j k) [
+              | inl b ↦ absurd (adds.none j f b cc)
+              | inr b ↦ a.0 ∙ sym b.0
+            ]
+          ];
+      total =
+          rw (sum_by_push, adds.count)
+          (total_more E p x (sum_by (λ (e : Ending). e.count) old) unseen ok.total);
+    })
   where
     unseen : (y : OutcomeValue) → E p y → ⊥
     unseen y h = not_before_itself p (before p y h)
 
-    later : List Ending
-    later = old ++ adds.entry ∷ []
-
     fresh : (s : List ℕ) → E s x → ⊥
     fresh s h = let at = ok.every s x h in adds.none at.0 at.1 at.2 at.3
-
-    counts : (k : ℕ) (e : Ending) → slice_get later k ≡ Some e
-        → HasCount (λ s. With E p x s e.outcome) e.count
-    counts k e h =
-        elim (get_push_cases old adds.entry e k h) [
-          | inl there ↦
-              count_same E p x e.outcome e.count (λ same. adds.none k e there same) (ok.counts k e there)
-          | inr here ↦
-              rw (← here.1, adds.outcome_is, adds.count)
-              (count_more E p x x 0 (unseen x) refl (none_listed (λ s. E s x) fresh))
-        ]
-
-    only : IsFirst (λ s. With E p x s x) p
-    only = record {
-      holds = inr (refl, refl);
-      earliest = λ t h. elim h [ inl e ↦ absurd (fresh t e) | inr at ↦ inl at.0 ];
-    }
-
-    firsts : (k : ℕ) (e : Ending) → slice_get later k ≡ Some e
-        → IsFirst (λ s. With E p x s e.outcome) e.first.items
-    firsts k e h =
-        elim (get_push_cases old adds.entry e k h) [
-          | inl there ↦ first_same E p e.first.items x e.outcome before (ok.firsts k e there)
-          | inr here ↦ rw (← here.1, adds.outcome_is, adds.first) only
-        ]
-
-    every : (s : List ℕ) (y : OutcomeValue) → With E p x s y
-        → (k : ℕ) × (e : Ending) × (slice_get later k ≡ Some e) × (e.outcome ≡ y)
-    every s y h =
-        elim h [
-          | inl old_one ↦
-              (let at = ok.every s y old_one in
-              (at.0, at.1, get_longer old (adds.entry ∷ []) at.0 at.1 at.2, at.3))
-          | inr new_one ↦ (length old, adds.entry, get_end old adds.entry, adds.outcome_is ∙ sym new_one.1)
-        ]
-
-    apart : (i j : ℕ) (e f : Ending) → slice_get later i ≡ Some e → slice_get later j ≡ Some f
-        → e.outcome ≡ f.outcome → i ≡ j
-    apart i j e f h k same =
-        elim (get_push_cases old adds.entry e i h) [
-          | inl a ↦ elim (get_push_cases old adds.entry f j k) [
-            | inl b ↦ ok.apart i j e f a b same
-            | inr b ↦ absurd (adds.none i e a cc)
-          ]
-          | inr a ↦ elim (get_push_cases old adds.entry f j k) [
-            | inl b ↦ absurd (adds.none j f b cc)
-            | inr b ↦ a.0 ∙ sym b.0
-          ]
-        ]
-
-    sum : sum_by (λ (e : Ending). e.count) later ≡ sum_by (λ (e : Ending). e.count) old + 1
-    sum = rw (sum_by_push, adds.count)
-
-    total : HasCount (λ s. (y : OutcomeValue) × With E p x s y) (sum_by (λ (e : Ending). e.count) later)
-    total = rw sum (total_more E p x (sum_by (λ (e : Ending). e.count) old) unseen ok.total)
 
 -- one schedule more
 pub noted : (E : List ℕ → OutcomeValue → Type 0) (p : List ℕ) (x : OutcomeValue) (old new : List Ending)

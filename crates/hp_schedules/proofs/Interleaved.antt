@@ -184,8 +184,7 @@ below_more ns c n all less within so_far = by_number (get_or ns c 0) refl
 
 below_all : (ns : List ℕ) (n : ℕ) → sum ns ≡ suc n → ((ms : List ℕ) → sum ms ≡ n → AreInterleaved ms)
     → (c : ℕ) → c ≤ length ns → AreBelow ns c n
-below_all ns n all less zero within =
-    (0, none_listed (FirstBelow ns 0) (λ s h. omega (arith, h.3)), omega arith)
+below_all ns n all less zero within = grind (arith, none_listed)
 below_all ns n all less (suc c) within =
     let one : c + 1 ≡ suc c = omega arith in
     rw (← one) (below_more ns c n all less (omega arith) (below_all ns n all less c (omega arith)))

@@ -20,7 +20,7 @@ use Rattle.hp_schedules.proofs.Coefficients.{only_one}
 use Rattle.hp_schedules.proofs.Counting.{same_count}
 use Rattle.hp_schedules.proofs.Interleaved.{HasTurns, interleaved, turns_cons}
 use Rattle.hp_schedules.proofs.Agreeing.{each_passes}
-use Rattle.hp_renumbering.proofs.Options.{cases_option}
+use Rattle.hp_laws.proofs.NumberedOptions.{cases_option}
 use Rattle.hp_schedules.proofs.OneCalls.{asks_once, skips, stays}
 use Rattle.hp_schedules.proofs.Plays.{from_news, stays_none}
 use Rattle.hp_schedules.proofs.Steps.{receipts_push}
@@ -75,22 +75,14 @@ call_asks g cpu news all less =
 call_none : (g : Setting) (cpu : ℕ) (news : List Record) → AreOneCalls g.scripts
     → script_length g.scripts cpu ≤ made cpu news → next_call g cpu news ≡ None
 unfolding next_call
-call_none g cpu news all le =
-    elim (cases_option (slice_get g.scripts cpu)) [
-      | inl none ↦ rw none
-      | inr lines ↦
-          rw lines.1 (asks_none g.layout.cpus (known_of (receipts_of cpu news)) lines.0 (receipts_of cpu news)
-          (each_passes holds_no_plan g.scripts cpu lines.0 all lines.1) (rw lines.1 at le))
-    ]
+call_none g cpu news all le = grind (arith, cases_option, asks_none, each_passes)
 
 -- a processor's call is one more of its own
 made_more : (g : Setting) (cpu c : ℕ) (news : List Record) (e : Event) (own : Bool) → eqb c cpu ≡ own
     → made cpu (news ++ record_of_call g news c e ∷ []) ≡ made cpu news + cond own 1 0
 unfolding record_of_call
-made_more g cpu c news e true own =
-    rw (receipts_push cpu news (record_of_call g news c e) true own, length_push)
-made_more g cpu c news e false own =
-    rw (receipts_push cpu news (record_of_call g news c e) false own, append-nil) (omega arith)
+made_more g cpu c news e true own = rw (receipts_push _ news _ _ own, length_push)
+made_more g cpu c news e false own = rw (receipts_push _ news _ _ own, append-nil) (omega arith)
 
 -- ---- schedules
 
@@ -103,18 +95,17 @@ turns_made g cpu (c ∷ s) news end all is le =
     elim (cases_option (next_call g c news)) [
       | inl none ↦ absurd (none-some end (sym (stays_none g s) ∙ (rw none at is)))
       | inr e ↦ (let later =
-          turns_made g cpu s (news ++ record_of_call g news c e.0 ∷ []) end all (rw e.1 at is)
-          (room e.0 e.1 (eqb c cpu) refl) in
+          turns_made g cpu s _ _ all (rw e.1 at is) (room _ e.1 (eqb c cpu) refl) in
           let one = made_more g cpu c news e.0 (eqb c cpu) refl in
           (omega (arith, later.0, one, turns_cons cpu c s (eqb c cpu) refl), later.1))
     ]
   where
     room : (e : Event) → next_call g c news ≡ Some e → (own : Bool) → eqb c cpu ≡ own
         → made cpu (news ++ record_of_call g news c e ∷ []) ≤ script_length g.scripts cpu
-    room e next false which = omega (arith, made_more g cpu c news e false which)
+    room e next false which = omega (arith, made_more g _ c news e _ which)
     room e next true which =
         elim (cases_lt (made cpu news) (script_length g.scripts cpu)) [
-          | inl less ↦ omega (arith, made_more g cpu c news e true which)
+          | inl less ↦ omega (arith, made_more g _ c news e _ which)
           | inr past ↦
               absurd (none-some e (sym (call_none g c news all (rw (eqb-true c cpu which) past)) ∙ next))
         ]
@@ -137,31 +128,26 @@ turns_play g (c ∷ s) news all counts =
 pub complete_schedules : (g : Setting) (s : List ℕ) → AreOneCalls g.scripts
     → IsComplete g s ↔ IsInterleaving g.scripts s
 unfolding plays
-complete_schedules g s all = (to, from)
-  where
-    to : IsComplete g s → (cpu : ℕ) → turns_of cpu s ≡ script_length g.scripts cpu
-    to h cpu =
-        let made_all = turns_made g cpu s [] h.1.news all h.1.played (omega arith) in
-        elim (cases_lt (made cpu h.1.news) (script_length g.scripts cpu)) [
-          | inl less ↦
-              absurd (let e = call_asks g cpu h.1.news all less in none-some e.0 (sym (h.1.over cpu) ∙ e.1))
-          | inr past ↦ omega (arith, made_all.0, made_all.1, past)
-        ]
-
-    from : ((cpu : ℕ) → turns_of cpu s ≡ script_length g.scripts cpu) → IsComplete g s
-    from counts =
-        let end = turns_play g s [] all (λ cpu. omega (arith, counts cpu)) in (
-          outcome_after g end.0,
-          record {
-            news = end.0;
-            played = end.1;
-            over =
-                λ cpu.
-                call_none g cpu end.0 all (let m = turns_made g cpu s [] end.0 all end.1 (omega arith) in
-                omega (arith, m.0, counts cpu));
-            ends = refl;
-          },
-        )
+complete_schedules g s all = (
+  λ h cpu. let made_all = turns_made g cpu s [] h.1.news all h.1.played (omega arith) in
+      elim (cases_lt (made cpu h.1.news) (script_length g.scripts cpu)) [
+        | inl less ↦
+            absurd (let e = call_asks g cpu h.1.news all less in none-some e.0 (sym (h.1.over cpu) ∙ e.1))
+        | inr past ↦ omega (arith, made_all.0, made_all.1, past)
+      ],
+  λ counts. let end = turns_play g s [] all (λ cpu. omega (arith, counts cpu)) in (
+    outcome_after g end.0,
+    record {
+      news = end.0;
+      played = end.1;
+      over =
+          λ cpu.
+          call_none g cpu end.0 all (let m = turns_made g cpu s [] end.0 all end.1 (omega arith) in
+          omega (arith, m.0, counts cpu));
+      ends = refl;
+    },
+  ),
+)
 
 -- ---- how many there are
 
@@ -178,15 +164,11 @@ complete_counted : (g : Setting) → AreOneCalls g.scripts
 complete_counted g all =
     let counted = interleaved (sum (script_lengths g.scripts)) (script_lengths g.scripts) refl in (
       counted.0,
-      same_count (HasTurns (script_lengths g.scripts)) (IsComplete g) counted.0 to from counted.1,
+      same_count (HasTurns (script_lengths g.scripts)) (IsComplete g) counted.0
+          (λ s h. (complete_schedules g s all).1 (λ cpu. h cpu ∙ length_at g.scripts cpu))
+          (λ s h cpu. (complete_schedules g s all).0 h cpu ∙ sym (length_at g.scripts cpu)) counted.1,
       counted.2,
     )
-  where
-    to : (s : List ℕ) → HasTurns (script_lengths g.scripts) s → IsComplete g s
-    to s h = (complete_schedules g s all).1 (λ cpu. h cpu ∙ length_at g.scripts cpu)
-
-    from : (s : List ℕ) → IsComplete g s → HasTurns (script_lengths g.scripts) s
-    from s h cpu = (complete_schedules g s all).0 h cpu ∙ sym (length_at g.scripts cpu)
 
 pub counted_by_lengths : (g : Setting) (m : ℕ) → AreOneCalls g.scripts → HasCount (IsComplete g) m
     → IsMultinomial (script_lengths g.scripts) m
@@ -195,8 +177,7 @@ counted_by_lengths g m all counted =
 
 pub lengths_count : (g : Setting) (m : ℕ) → AreOneCalls g.scripts
     → IsMultinomial (script_lengths g.scripts) m → HasCount (IsComplete g) m
-lengths_count g m all is =
-    let one = complete_counted g all in rw (← only_one (script_lengths g.scripts) one.0 m one.2 is) one.1
+lengths_count g m all is = let one = complete_counted g all in rw (← only_one _ _ m one.2 is) one.1
 
 -- ---- how many calls there are, and the room that they need
 

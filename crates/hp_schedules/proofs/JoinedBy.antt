@@ -13,9 +13,9 @@ use Rattle.hp_units.specs.declared.replies.Reply.{Reply}
 use Rattle.hp_laws.proofs.Net.{run-push}
 use Rattle.hp_laws.proofs.Records.{with_good}
 use Rattle.hp_laws.proofs.Replays.{net_bad}
-use Rattle.hp_renumbering.specs.Renumbered.{IsOneToOne, renumbered, renumbered_event}
-use Rattle.hp_renumbering.proofs.Alike.{effect_same, renumbered_effect, steps_same}
-use Rattle.hp_renumbering.proofs.RenumberedRows.{number_same}
+use Rattle.hp_laws.specs.Renumbered.{IsOneToOne, renumbered, renumbered_event}
+use Rattle.hp_laws.proofs.Alike.{effect_same, renumbered_effect, steps_same}
+use Rattle.hp_laws.proofs.RenumberedRows.{number_same}
 use Rattle.hp_schedules.specs.Alike.{leaves_steps}
 use Rattle.hp_schedules.specs.Continuing.{AreJoinedBy, IsSameReceipt}
 use Rattle.hp_schedules.specs.Openings.{AreOpen, Opening, after_cancel, after_work, change_by, change_of, renumbered_change, renumbered_opening}

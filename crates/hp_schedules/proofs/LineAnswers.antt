@@ -14,7 +14,7 @@ use Rattle.hp_schedules.specs.Scripts.{after_line, after_lines, nothing_known}
 use Rattle.hp_schedules.specs.declared.scripts.Step.{Step}
 use Rattle.hp_schedules.specs.declared.scripts.Step.TheVariants.{Carry}
 use Rattle.hp_schedules.proofs.AfterLines.{after_more, after_parts, first_then}
-use Rattle.hp_renumbering.proofs.Options.{cases_option}
+use Rattle.hp_laws.proofs.NumberedOptions.{cases_option}
 use Rattle.hp_schedules.proofs.Steps.{receipts_push}
 
 -- ---- the first line
@@ -44,9 +44,7 @@ pub first_more : (cpus : ℕ) (line : Step) (lines : List Step) (receipts more r
     → answers_in cpus (line ∷ lines) (receipts ++ more)
     ≡ answer_of line (without receipts rest) ∷ answers_in cpus lines (rest ++ more)
 first_more cpus line lines receipts more rest is =
-    let parts = after_parts cpus nothing_known line [] receipts rest is in
-    rw (after_more cpus nothing_known line [] receipts more rest is, parts.whole, append_assoc)
-    (rw (without_is parts.own (rest ++ more), without_is parts.own rest))
+    grind (arith, after_parts, after_more, append_assoc, without_is)
 
 -- ---- lines up to a place
 

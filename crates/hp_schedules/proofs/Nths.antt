@@ -1,5 +1,5 @@
 -- A processor's results of one kind, from a record on.
-use Rattle.std.proofs.Common.{◌≡◌, ℕ, zero, suc, ◌+◌, ◌-◌, ◌<◌, Bool, cond, eqb, List, ◌∷◌, drop, filter, get_or, length, map, ap, refl, ◌∙◌, arith, inl, inr}
+use Rattle.std.proofs.Common.{◌≡◌, ℕ, zero, suc, ◌+◌, ◌-◌, ◌<◌, Bool, cond, eqb, List, ◌∷◌, drop, filter, get_or, length, map, arith, inl, inr}
 use Rattle.std.specs.Prelude.{◌&&◌}
 use Rattle.std.proofs.lemmas.Bool.{cases_Bool}
 use Rattle.std.proofs.lemmas.Option.{slice_get_read}
@@ -16,11 +16,7 @@ first_shown : (f : Receipt → ℕ) (kind : Receipt → Bool) (cpu : ℕ) (r : R
     (own : Bool)
     → eqb r.cpu cpu && kind (receipt_of r) ≡ own → shown f kind cpu (r ∷ rest)
     ≡ cond own (f (receipt_of r) ∷ shown f kind cpu rest) (shown f kind cpu rest)
-first_shown f kind cpu r rest own is =
-    elim (cases_Bool (eqb r.cpu cpu)) [
-      | inl e ↦ elim (cases_Bool (kind (receipt_of r))) [ inl k ↦ rw (← is, e, k) | inr k ↦ rw (← is, e, k) ]
-      | inr e ↦ rw (← is, e)
-    ]
+first_shown f kind cpu r rest own is = grind (arith, cases_Bool)
 
 -- from this record on, and from the next one on
 pub shown_at : (f : Receipt → ℕ) (kind : Receipt → Bool) (cpu : ℕ) (news : List Record) (k : ℕ) (r : Record)
@@ -29,9 +25,7 @@ pub shown_at : (f : Receipt → ℕ) (kind : Receipt → Bool) (cpu : ℕ) (news
     → shown f kind cpu (drop k news)
     ≡ cond own (f (receipt_of r) ∷ shown f kind cpu (drop (k + 1) news))
     (shown f kind cpu (drop (k + 1) news))
-shown_at f kind cpu news k r own less read is =
-    ap (shown f kind cpu) (lines_here news k r (slice_get_read news (length news) k r refl less read))
-    ∙ first_shown f kind cpu r (drop (k + 1) news) own is
+shown_at f kind cpu news k r own less read is = grind (arith, lines_here, slice_get_read, first_shown)
 
 pub shown_long : (f : Receipt → ℕ) (kind : Receipt → Bool) (cpu : ℕ) (news : List Record) (k : ℕ)
     (r : Record) (own : Bool)
@@ -45,6 +39,4 @@ shown_long f kind cpu news k r own less read is =
 pub nth_later : (x : ℕ) (xs : List ℕ) (nth none : ℕ) → 0 < nth
     → get_or (x ∷ xs) nth none ≡ get_or xs (nth - 1) none
 nth_later x xs zero none some = absurd (omega (arith, some))
-nth_later x xs (suc k) none some =
-    let before : k ≡ suc k - 1 = omega arith in
-    ap (λ (n : ℕ). get_or xs n none) before
+nth_later x xs (suc k) none some = grind arith

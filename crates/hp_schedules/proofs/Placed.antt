@@ -1,5 +1,5 @@
 -- Where all processors are in their scripts, after a call and back over it.
-use Rattle.std.proofs.Common.{◌≡◌, ℕ, zero, suc, ◌<◌, ◌≤◌, false, List, [], ◌∷◌, ◌++◌, length, set, Option, Some, None, slice_get, refl, ap, sym, ◌∙◌, arith, inl, inr, map}
+use Rattle.std.proofs.Common.{◌≡◌, ℕ, zero, suc, ◌<◌, ◌≤◌, List, [], ◌∷◌, ◌++◌, length, set, Option, Some, None, slice_get, refl, ap, sym, ◌∙◌, arith, inl, inr, map}
 use Rattle.std.proofs.lemmas.Bool.{cases_lt, ne_eqb}
 use Rattle.std.proofs.lemmas.List.{append-nil, length-map, length-set}
 use Rattle.std.proofs.lemmas.Option.{none-some, slice_get-map, same_Some, slice_get_within}
@@ -30,7 +30,13 @@ pub all_begun : (g : Setting) (cpus : ℕ) (scripts : List (List Step)) (cursors
     → g.scripts ≡ scripts → g.layout.cpus ≡ cpus
     → cursors ≡ map (λ (lines : List Step). cursor_at cpus lines 0 0) scripts → AreCursors g [] cursors
 all_begun g cpus scripts cursors scripts_is cpus_is is =
-    record { many = rw (begun, length-map); each = each; settled = settled }
+    record {
+      many = rw (begun, length-map);
+      each = λ cpu lines c here there. rw (← made cpu lines c here there) (begins g.layout.cpus lines);
+      settled = λ cpu lines c here there off k line at is.
+          let at_first : 0 ≡ c.line = ap (λ (d : Cursor). d.line) (made cpu lines c here there) in
+          absurd (omega (arith, at, at_first));
+    }
   where
     begun : cursors ≡ map (λ (lines : List Step). cursor_at g.layout.cpus lines 0 0) g.scripts
     begun = rw (scripts_is, cpus_is) is
@@ -38,16 +44,6 @@ all_begun g cpus scripts cursors scripts_is cpus_is is =
     made : (cpu : ℕ) (lines : List Step) (c : Cursor) → slice_get g.scripts cpu ≡ Some lines
         → slice_get cursors cpu ≡ Some c → cursor_at g.layout.cpus lines 0 0 ≡ c
     made cpu lines c here there = let at = rw (begun, slice_get-map, here) at there in cc
-
-    each : (cpu : ℕ) (lines : List Step) (c : Cursor) → slice_get g.scripts cpu ≡ Some lines
-        → slice_get cursors cpu ≡ Some c → IsCursor g.layout.cpus lines [] c
-    each cpu lines c here there = rw (← made cpu lines c here there) (begins g.layout.cpus lines)
-
-    settled : (cpu : ℕ) (lines : List Step) (c : Cursor) → slice_get g.scripts cpu ≡ Some lines
-        → slice_get cursors cpu ≡ Some c → IsSettled lines c
-    settled cpu lines c here there off k line at is =
-        let at_first : 0 ≡ c.line = ap (λ (d : Cursor). d.line) (made cpu lines c here there) in
-        absurd (omega (arith, at, at_first))
 
 -- ---- a request
 
@@ -89,10 +85,7 @@ requested_past g news cpu scripts scripts_is past = none_past g news cpu (rw scr
 -- one whose script asks for something has one
 pub called_within : (g : Setting) (cpu : ℕ) (news : List Record) (scripts : List (List Step)) (event : Event)
     → g.scripts ≡ scripts → next_call g cpu news ≡ Some event → cpu < length scripts
-called_within g cpu news scripts event scripts_is asked = elim (cases_lt cpu (length scripts)) [
-  | inl within ↦ within
-  | inr past ↦ absurd (none-some event (sym (requested_past g news cpu scripts scripts_is past) ∙ asked))
-]
+called_within g cpu news scripts event scripts_is asked = grind (arith, cases_lt, none-some, requested_past)
 
 -- ---- one call more, and back over it
 
@@ -109,30 +102,24 @@ cursors_more : (g : Setting) (news : List Record) (r : Record) (cursors : List C
     → IsSettled lines later → AreCursors g news cursors
     → AreCursors g (news ++ r ∷ []) (set cursors r.cpu later)
 cursors_more g news r cursors lines later here is settles all =
-    record { many = length-set cursors r.cpu later ∙ all.many; each = each; settled = settled }
+    record {
+      many = length-set cursors r.cpu later ∙ all.many;
+      each = λ k ls c h i. elim (get_set_cases _ _ _ k c i) [
+        | inl own ↦ rw (← own.1, ← same_lines k _ own.0 h, own.0, receipts_own news r) is
+        | inr off ↦ rw (other k off.0) (all.each k ls c h off.1)
+      ];
+      settled = λ k ls c h i. elim (get_set_cases _ _ _ k c i) [
+        | inl own ↦ rw (← own.1, ← same_lines k _ own.0 h) settles
+        | inr off ↦ all.settled k ls c h off.1
+      ];
+    }
   where
     same_lines : (k : ℕ) (ls : List Step) → k ≡ r.cpu → slice_get g.scripts k ≡ Some ls → lines ≡ ls
     same_lines k ls at h = cc
 
     other : (k : ℕ) → (k ≡ r.cpu → ⊥) → receipts_of k (news ++ r ∷ []) ≡ receipts_of k news
     other k off =
-        receipts_push k news r false (ne_eqb r.cpu k (λ same. off (sym same)))
-        ∙ append-nil (receipts_of k news)
-
-    each : (k : ℕ) (ls : List Step) (c : Cursor) → slice_get g.scripts k ≡ Some ls
-        → slice_get (set cursors r.cpu later) k ≡ Some c
-        → IsCursor g.layout.cpus ls (receipts_of k (news ++ r ∷ [])) c
-    each k ls c h i = elim (get_set_cases cursors r.cpu later k c i) [
-      | inl own ↦ rw (← own.1, ← same_lines k ls own.0 h, own.0, receipts_own news r) is
-      | inr off ↦ rw (other k off.0) (all.each k ls c h off.1)
-    ]
-
-    settled : (k : ℕ) (ls : List Step) (c : Cursor) → slice_get g.scripts k ≡ Some ls
-        → slice_get (set cursors r.cpu later) k ≡ Some c → IsSettled ls c
-    settled k ls c h i = elim (get_set_cases cursors r.cpu later k c i) [
-      | inl own ↦ rw (← own.1, ← same_lines k ls own.0 h) settles
-      | inr off ↦ all.settled k ls c h off.1
-    ]
+        receipts_push k news r _ (ne_eqb r.cpu k (λ same. off (sym same))) ∙ append-nil (receipts_of k news)
 
 -- the processor's cursor goes on from where its script asked for the call
 pub went_on : (g : Setting) (news : List Record) (r : Record) (cpus cpu : ℕ) (scripts : List (List Step))

@@ -82,7 +82,4 @@ added_end ends entry new x schedule none outcome_is count first is = record {
 pub total_first : (ends new : List Ending) (entry : Ending) (total limit : ℕ) → entry.count ≡ 1
     → new ≡ ends ++ entry ∷ [] → total ≡ sum_by (λ (f : Ending). f.count) ends → total < limit
     → (total + 1 ≡ sum_by (λ (f : Ending). f.count) new) × (total + 1 ≤ limit)
-total_first ends new entry total limit one is sum less = (
-  omega (arith, ap (sum_by (λ (f : Ending). f.count)) is, sum_by_push (λ (f : Ending). f.count) ends entry),
-  omega arith,
-)
+total_first ends new entry total limit one is sum less = grind (arith, sum_by_push)

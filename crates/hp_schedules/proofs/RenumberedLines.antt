@@ -13,8 +13,8 @@ use Rattle.hp_units.specs.declared.replies.Receipt.{Receipt}
 use Rattle.hp_units.specs.declared.replies.Refusal.TheVariants.{NoFrame, NothingToMove, NotFree}
 use Rattle.hp_units.specs.declared.replies.Reply.{Reply}
 use Rattle.hp_units.specs.declared.replies.Reply.TheVariants.{Done, Moved, Opened, Refused}
-use Rattle.hp_renumbering.specs.Renumbered.{renumbered_event, renumbered_reply}
-use Rattle.hp_renumbering.proofs.Alike.{unseen_same}
+use Rattle.hp_laws.specs.Renumbered.{renumbered_event, renumbered_reply}
+use Rattle.hp_laws.proofs.Alike.{unseen_same}
 use Rattle.hp_schedules.specs.Continuing.{AreSameReceipts, IsSameReceipt}
 use Rattle.hp_schedules.specs.Scripts.{Known, after_line, next_in, work_of}
 use Rattle.hp_schedules.specs.declared.scripts.Step.{Step}
@@ -109,8 +109,7 @@ pub rest_alike : (p q : ℕ → ℕ) (cpus : ℕ) (a b : Known) (turns : ℕ) (p
     → AreSameReceipts p q later others → GoAlike p q cpus turns plan xs ys
     → AreSameRests p q (after_line cpus a (Carry plan turns) xs later)
     (after_line cpus b (Carry plan turns) ys others)
-rest_alike p q cpus a b turns plan xs ys [] [] same alike =
-    by_next (next_event cpus turns plan xs) (next_event cpus turns plan ys) alike.next
+rest_alike p q cpus a b turns plan xs ys [] [] same alike = by_next _ _ alike.next
   where
     by_next : (o u : Option Event) → option_map (renumbered_event p) o ≡ option_map (renumbered_event q) u
         → AreSameRests p q (option_map_or (λ event. None) o (Some []))

@@ -1,5 +1,5 @@
 -- Receipts that are the same but for the numbers of operations give lines the same answers.
-use Rattle.std.proofs.Common.{◌≡◌, ℕ, zero, suc, ◌-◌, List, [], ◌∷◌, ◌++◌, length, map, take, eqb, Option, Some, None, slice_get, refl, ap, ◌∙◌, inl, inr, arith}
+use Rattle.std.proofs.Common.{◌≡◌, ℕ, zero, suc, List, [], ◌∷◌, ◌++◌, length, map, take, eqb, Option, Some, None, slice_get, refl, ap, ◌∙◌, inl, inr, arith}
 use Rattle.std.specs.Prelude.{fold, option_map}
 use Rattle.std.specs.Option.{option_map_or}
 use Rattle.std.proofs.lemmas.Bool.{cases_Bool}
@@ -16,8 +16,8 @@ use Rattle.hp_units.specs.declared.replies.Refusal.{Refusal}
 use Rattle.hp_units.specs.declared.replies.Refusal.TheVariants.{NoOp}
 use Rattle.hp_units.specs.declared.replies.Reply.{Reply}
 use Rattle.hp_units.specs.declared.replies.Reply.TheVariants.{Done, Restored, Released, Refused}
-use Rattle.hp_renumbering.specs.Renumbered.{renumbered_reply}
-use Rattle.hp_renumbering.proofs.Alike.{unseen_same}
+use Rattle.hp_laws.specs.Renumbered.{renumbered_reply}
+use Rattle.hp_laws.proofs.Alike.{unseen_same}
 use Rattle.hp_schedules.specs.Continuing.{AreSameReceipts, IsSameReceipt, anonymous_record}
 use Rattle.hp_schedules.specs.LineAnswers.{answer_of, answers_in, without}
 use Rattle.hp_schedules.specs.Scripts.{after_line, nothing_known}
@@ -132,20 +132,18 @@ same_push p q (r ∷ front) last (s ∷ given) same =
 pub end_alike : (p q : ℕ → ℕ) (xs ys own given : List Receipt) → IsPush own → AreSameReceipts p q own given
     → cause_of xs ≡ cause_of ys → end_of (xs ++ own) ≡ end_of (ys ++ given)
 end_alike p q xs ys own given push same causes =
-    rw (at xs own push.front push.last push.list_is, at ys given both.others both.other both.given_is, fronts)
-    (rw (last_end p q (cause_after before push.last.event push.last.reply) push.last both.other both.lasts)
-    (rw (cause_same p q before push.last both.other both.lasts)))
+    rw (at xs _ _ _ push.list_is, at ys _ _ _ both.given_is, fronts)
+    (rw (last_end p q (cause_after before push.last.event push.last.reply) _ _ both.lasts)
+    (rw (cause_same p q before _ _ both.lasts)))
   where
     both : SamePush p q push.front push.last given
-    both = same_push p q push.front push.last given (rw push.list_is at same)
+    both = same_push p q _ _ _ (rw push.list_is at same)
 
     before : Option Refusal
     before = cause_of (ys ++ both.others)
 
     fronts : cause_of (xs ++ push.front) ≡ cause_of (ys ++ both.others)
-    fronts =
-        simp fold-append
-        (causes_same p q (cause_of xs) (cause_of ys) push.front both.others causes both.fronts)
+    fronts = simp fold-append (causes_same p q _ _ _ _ causes both.fronts)
 
     at : (zs rs front : List Receipt) (last : Receipt) → rs ≡ front ++ last ∷ []
         → end_of (zs ++ rs)
@@ -179,9 +177,7 @@ answer_same p q (Own work) own given same = first_same p q own given same
 -- what a line leaves of the receipts
 line_leaves : (p q : ℕ → ℕ) (cpus : ℕ) (line : Step) (xs ys : List Receipt) → AreSameReceipts p q xs ys
     → AreSameRests p q (after_line cpus nothing_known line [] xs) (after_line cpus nothing_known line [] ys)
-line_leaves p q cpus (Carry plan turns) xs ys same =
-    rest_alike p q cpus nothing_known nothing_known turns plan [] [] xs ys same
-    (begin_alike p q cpus turns plan)
+line_leaves p q cpus (Carry plan turns) xs ys same = grind (arith, rest_alike, begin_alike)
 line_leaves p q cpus line [] [] same = tt
 line_leaves p q cpus line (r ∷ xs) (s ∷ ys) same =
     rw (finished_once cpus nothing_known line r xs refl)
@@ -191,18 +187,13 @@ line_leaves p q cpus line xs ys same = absurd same
 -- the receipts before those that are left
 pub without_same : (p q : ℕ → ℕ) (xs ys rest left : List Receipt) → AreSameReceipts p q xs ys
     → AreSameReceipts p q rest left → AreSameReceipts p q (without xs rest) (without ys left)
-without_same p q xs ys rest left same are =
-    let many : length xs - length rest ≡ length ys - length left =
-    omega (arith, same_long p q xs ys same, same_long p q rest left are) in
-    rw (← many) (take_same p q (length xs - length rest) xs ys same)
+without_same p q xs ys rest left same are = grind (arith, same_long, take_same)
 
 pub answers_same : (p q : ℕ → ℕ) (cpus : ℕ) (lines : List Step) (xs ys : List Receipt)
     → AreSameReceipts p q xs ys → answers_in cpus lines xs ≡ answers_in cpus lines ys
 answers_same p q cpus [] xs ys same = refl
 answers_same p q cpus (line ∷ lines) xs ys same =
-    by_rests (after_line cpus nothing_known line [] xs) (after_line cpus nothing_known line [] ys)
-    (line_leaves p q cpus line xs ys same)
-    (λ rest left are. answers_same p q cpus lines rest left are)
+    by_rests _ _ (line_leaves p q cpus line _ _ same) (λ rest left are. answers_same p q cpus lines _ _ are)
   where
     by_rests : (o u : Option (List Receipt)) → AreSameRests p q o u
         → ((rest left : List Receipt) → AreSameReceipts p q rest left
@@ -211,8 +202,7 @@ answers_same p q cpus (line ∷ lines) xs ys same =
         ≡ option_map_or (λ rest. answer_of line (without ys rest) ∷ answers_in cpus lines rest) u []
     by_rests None None are later = refl
     by_rests (Some rest) (Some left) are later =
-        rw (answer_same p q line (without xs rest) (without ys left)
-        (without_same p q xs ys rest left same are)) (rw (later rest left are))
+        rw (answer_same p q line _ _ (without_same p q _ _ _ _ same are)) (rw (later rest left are))
     by_rests o u are later = absurd are
 
 -- ---- records

@@ -16,16 +16,16 @@ use Rattle.hp_units.specs.declared.replies.Reply.{Reply}
 use Rattle.hp_units.specs.declared.replies.Reply.TheVariants.{Opened, Restored}
 use Rattle.hp_laws.proofs.Net.{net-push}
 use Rattle.hp_laws.proofs.Steps.{steps}
-use Rattle.hp_renumbering.specs.Renumbered.{IsOneToOne, renumbered_event, renumbered_reply}
-use Rattle.hp_renumbering.proofs.Alike.{effect_same, renumbered_effect, steps_same}
+use Rattle.hp_laws.specs.Renumbered.{IsOneToOne, renumbered_event, renumbered_reply}
+use Rattle.hp_laws.proofs.Alike.{effect_same, renumbered_effect, steps_same}
 use Rattle.hp_schedules.specs.Alike.{AreMergeable, leaves_steps}
 use Rattle.hp_schedules.specs.Continuing.{AreSameBy, AreSameReceipts}
 use Rattle.hp_schedules.specs.Schedules.{Setting, next_call, record_of_call}
-use Rattle.hp_schedules.specs.Scripts.{known_of, next_of}
+use Rattle.hp_schedules.specs.Scripts.{next_of}
 use Rattle.hp_schedules.specs.declared.scripts.Step.{Step}
 use Rattle.hp_schedules.proofs.JoinedBy.{IsSameRecord, cancelled_same, joined_more}
 use Rattle.hp_schedules.proofs.Agreeing.{script_mergeable}
-use Rattle.hp_renumbering.proofs.Options.{cases_option}
+use Rattle.hp_laws.proofs.NumberedOptions.{cases_option}
 use Rattle.hp_schedules.proofs.Steps.{receipts_push}
 use Rattle.hp_schedules.proofs.Unnumbered.{lines_leave}
 
@@ -216,10 +216,4 @@ call_same p q g h k cpu alike =
 pub call_leaves : (g : Setting) (h : List Record) (cpu : ℕ) (e : Event) → AreMergeable g.scripts
     → next_call g cpu h ≡ Some e → leaves_steps (effect_of e) ≡ true
 unfolding next_call
-call_leaves g h cpu e all is =
-    elim (cases_option (slice_get g.scripts cpu)) [
-      | inl none ↦ absurd (none-some e (rw none at is))
-      | inr lines ↦
-          lines_leave g.layout.cpus (known_of (receipts_of cpu h)) lines.0 (receipts_of cpu h) e
-          (script_mergeable g.scripts cpu lines.0 all lines.1) (rw lines.1 at is)
-    ]
+call_leaves g h cpu e all is = grind (arith, cases_option, none-some, lines_leave, script_mergeable)

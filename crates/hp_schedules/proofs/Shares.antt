@@ -55,11 +55,7 @@ at_ends_more shares many more le at i s h = let less = at i s h in omega (arith,
 
 pub at_ends_push : (shares : List Share) (s : Share) (many : ℕ) → s.end < many → AreAtEnds many shares
     → AreAtEnds many (shares ++ s ∷ [])
-at_ends_push shares s many within at i t h =
-    elim (get_push_cases shares s t i h) [
-      | inl there ↦ at i t there
-      | inr here ↦ subst (λ (u : Share). u.end < many) here.1 within
-    ]
+at_ends_push shares s many within at i t h = grind (arith, get_push_cases)
 
 -- ---- as counts by the places of ends
 
@@ -89,13 +85,7 @@ counts_below shares (suc n) k less =
 
 pub counts_tell : (shares : List Share) (many : ℕ) → AreAtEnds many shares → (k : ℕ)
     → amount_of shares k ≡ get_or (counts_in shares many) k 0
-counts_tell shares many at k =
-    elim (cases_lt k many) [
-      | inl below ↦ sym (counts_below shares many k below)
-      | inr past ↦
-          amount_past shares many k at past
-          ∙ sym (get_or_past (counts_in shares many) k 0 (omega (arith, past, counts_long shares many)))
-    ]
+counts_tell shares many at k = grind (arith, cases_lt, counts_below, amount_past, get_or_past, counts_long)
 
 -- the shares up to one have its count more
 shared_more : (shares : List Share) (at : ℕ) (s : Share) → slice_get shares at ≡ Some s
@@ -148,9 +138,7 @@ adds_none ends shares = record {
 pub next_end : (old new : List Ending) (shares : List Share) (at : ℕ) (s : Share)
     → slice_get shares at ≡ Some s → AreAtEnds (length old) shares → AddsBelow old shares at new
     → s.end < length new
-next_end old new shares at s here ends so_far =
-    let less = ends at s here in
-    omega (arith, less, so_far.adds.as_many)
+next_end old new shares at s here ends so_far = grind arith
 
 pub next_room : (old mid : TallyValue) (shares : List Share) (at : ℕ) (s : Share)
     → slice_get shares at ≡ Some s → mid.limit ≡ old.limit

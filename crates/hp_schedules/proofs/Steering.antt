@@ -1,11 +1,11 @@
 -- Positions with equal numbers: their scripts call the same after the same further receipts.
-use Rattle.std.proofs.Common.{◌≡◌, ℕ, zero, suc, ◌+◌, ◌<◌, true, false, cond, List, [], ◌∷◌, ◌++◌, drop, filter, length, map, Some, slice_get, refl, ap, sym, ◌∙◌, arith}
+use Rattle.std.proofs.Common.{◌≡◌, ℕ, zero, suc, ◌+◌, ◌<◌, true, false, cond, List, [], ◌∷◌, ◌++◌, drop, length, Some, slice_get, refl, sym, ◌∙◌, arith, inl, inr}
 use Rattle.std.specs.Prelude.{fold, option_map}
-use Rattle.std.proofs.lemmas.Bool.{and_parts}
+use Rattle.std.proofs.lemmas.Bool.{and_parts, cases_Bool}
 use Rattle.std.proofs.lemmas.List.Sums.{fold-append}
 use Rattle.std.proofs.lemmas.Option.{slice_get_within}
 use Rattle.hp_laws.proofs.Lists.{get_some}
-use Rattle.hp_ops.specs.Stages.{event_in, key_of, stage_number, stage_op}
+use Rattle.hp_ops.specs.Stages.{event_in, stage_number, stage_op}
 use Rattle.hp_ops.specs.declared.stages.Driver.{Driver}
 use Rattle.hp_ops.specs.declared.stages.Stage.{Stage}
 use Rattle.hp_ops.specs.declared.stages.Stage.TheVariants.{Begin as Begins, DrainFor as DrainsFor, Migrate as Migrates, Commit as Commits, Cancel as Cancels}
@@ -16,13 +16,13 @@ use Rattle.hp_units.specs.Receipts.{receipts_of}
 use Rattle.hp_units.specs.declared.plans.Item.{Item}
 use Rattle.hp_units.specs.declared.replies.Receipt.{Receipt}
 use Rattle.hp_units.specs.declared.replies.Record.{Record}
-use Rattle.hp_renumbering.specs.Renumbered.{renumbered_event}
-use Rattle.hp_renumbering.proofs.Alike.{unseen_same}
+use Rattle.hp_laws.specs.Renumbered.{renumbered_event}
+use Rattle.hp_laws.proofs.Alike.{unseen_same}
 use Rattle.hp_schedules.specs.Alike.{AreMergeable, is_mergeable, is_mergeable_line}
 use Rattle.hp_schedules.specs.Continuing.{AreJoinedBy, AreSameBy, AreSameReceipts}
 use Rattle.hp_schedules.specs.Cursors.{IsInFirst, IsSteered, frames_ahead, steering_of}
 use Rattle.hp_schedules.specs.Schedules.{Setting}
-use Rattle.hp_schedules.specs.Scripts.{Known, frame_in, frames_of, known_of, later_operation, next_in, next_of, own_operation, step_work_of, takes_frame}
+use Rattle.hp_schedules.specs.Scripts.{Known, frames_of, known_of, later_operation, next_in, next_of, own_operation, step_work_of, takes_frame}
 use Rattle.hp_schedules.specs.Starts.{same_starts}
 use Rattle.hp_schedules.specs.declared.scripts.OwnWork.TheVariants.{Latest, Nth, Free}
 use Rattle.hp_schedules.specs.declared.scripts.Step.{Step}
@@ -66,9 +66,7 @@ op_at (suc (suc (suc (suc (suc cpu))))) op = op
 
 stage_named : (f : ℕ → ℕ) (s : Stage)
     → stage_op (renumbered_stage f s) ≡ op_at (stage_number s) (f (stage_op s))
-stage_named f (DrainsFor op cpu) =
-    let from_five : suc (suc (suc (suc (suc cpu)))) ≡ 5 + cpu = omega arith in
-    ap (λ (n : ℕ). op_at n (f op)) from_five
+stage_named f (DrainsFor op cpu) = grind arith
 stage_named f s = refl
 
 -- drivers with equal numbers ask for the same, as `p` and `q` number the operations
@@ -80,12 +78,7 @@ pub record AreSameDrivers (p q : ℕ → ℕ) (d e : Driver) : Type 0 where
 pub drivers_ask : (p q : ℕ → ℕ) (d e : Driver) (plan : List Item) → AreSameDrivers p q d e
     → option_map (renumbered_event p) (event_in plan d.stage)
     ≡ option_map (renumbered_event q) (event_in plan e.stage)
-drivers_ask p q d e plan same =
-    let keys : key_of (renumbered_driver p d) ≡ key_of (renumbered_driver q e) =
-    rw (same.left, stage_kept p d.stage, stage_kept q e.stage)
-    (rw (stage_named p d.stage, stage_named q e.stage, same.stage, same.op)) in
-    rw (stage_event p plan d.stage, stage_event q plan e.stage)
-    (same_event (renumbered_driver p d) (renumbered_driver q e) plan keys)
+drivers_ask p q d e plan same = grind (arith, stage_kept, stage_named, stage_event, same_event)
 
 -- ---- lines
 
@@ -133,13 +126,9 @@ frames_alike p q [] [] same = refl
 frames_alike p q [] (s ∷ ys) same = absurd same
 frames_alike p q (r ∷ xs) [] same = absurd same
 frames_alike p q (r ∷ xs) (s ∷ ys) same =
-    rw (← takes) (elim (takes_frame r.event) as (λ b.
-    map (λ (x : Receipt). frame_in x.reply) (cond b (r ∷ filter (λ (x : Receipt). takes_frame x.event) xs)
-    (filter (λ (x : Receipt). takes_frame x.event) xs))
-    ≡ map (λ (x : Receipt). frame_in x.reply) (cond b (s ∷ filter (λ (x : Receipt). takes_frame x.event) ys)
-    (filter (λ (x : Receipt). takes_frame x.event) ys))) [
-      | true ↦ rw (same.0.reply, frames_alike p q xs ys same.1)
-      | false ↦ frames_alike p q xs ys same.1
+    rw (← takes) (elim (cases_Bool (takes_frame r.event)) [
+      | inl e ↦ rw (e, same.0.reply, frames_alike p q xs ys same.1)
+      | inr e ↦ rw e (frames_alike p q xs ys same.1)
     ])
   where
     takes : takes_frame r.event ≡ takes_frame s.event

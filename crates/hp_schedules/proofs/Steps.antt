@@ -1,5 +1,5 @@
 -- A processor's receipts with one record more.
-use Rattle.std.proofs.Common.{◌≡◌, ℕ, Bool, true, false, cond, List, [], ◌∷◌, ◌++◌, map, eqb, refl}
+use Rattle.std.proofs.Common.{◌≡◌, ℕ, Bool, true, false, cond, List, [], ◌∷◌, ◌++◌, eqb, refl}
 use Rattle.std.proofs.lemmas.Bool.{eq-eqb}
 use Rattle.std.proofs.lemmas.List.{map-append}
 use Rattle.std.proofs.lemmas.List.Elements.{filter-append}
@@ -9,10 +9,8 @@ use Rattle.hp_units.specs.declared.replies.Record.{Record}
 -- the receipts with one record more, by whether it is the processor's
 pub receipts_push : (cpu : ℕ) (h : List Record) (r : Record) (own : Bool) → eqb r.cpu cpu ≡ own
     → receipts_of cpu (h ++ r ∷ []) ≡ receipts_of cpu h ++ cond own (receipt_of r ∷ []) []
-receipts_push cpu h r own is =
-    rw (filter-append (λ (q : Record). eqb q.cpu cpu) h (r ∷ []), map-append, is) (elim own as (λ b.
-    receipts_of cpu h ++ map receipt_of (cond b (r ∷ []) [])
-    ≡ receipts_of cpu h ++ cond b (receipt_of r ∷ []) []) [ true ↦ refl | false ↦ refl ])
+receipts_push cpu h r true is = simp (filter-append, map-append, is)
+receipts_push cpu h r false is = simp (filter-append, map-append, is)
 
 -- its own record's
 pub receipts_own : (h : List Record) (r : Record)

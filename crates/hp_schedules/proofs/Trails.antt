@@ -1,5 +1,5 @@
 -- The trail: sums in place of shares, and the counts that it tells.
-use Rattle.std.proofs.Common.{◌≡◌, ℕ, ◌+◌, ◌<◌, ◌≤◌, Bool, true, false, List, [], ◌∷◌, ◌++◌, length, take, drop, get_or, set, cond, Some, nat_eq, slice_get, refl, ap, sym, subst, ◌∙◌, arith, inl, inr, length-drop}
+use Rattle.std.proofs.Common.{◌≡◌, ℕ, ◌+◌, ◌<◌, ◌≤◌, Bool, true, false, List, [], ◌∷◌, ◌++◌, length, take, drop, set, cond, Some, nat_eq, slice_get, refl, ap, sym, subst, ◌∙◌, arith, inl, inr, length-drop}
 use Rattle.std.specs.Prelude.{sum_by}
 use Rattle.std.proofs.lemmas.List.{drop-append-le, drop-set-lt, get_or-drop, get_or-take, get_or_past, length_push, length-set, length-take-le, take_all, take-take, take_more_set, take-set-le}
 use Rattle.std.proofs.lemmas.List.Sums.{get_or-le-sum_by, sum_by-drop_more, sum_by_push, sum_by-set, sum_by-take-drop}
@@ -7,10 +7,9 @@ use Rattle.std.proofs.lemmas.Option.{get_or_from_slice_get, slice_get_read, slic
 use Rattle.hp_laws.proofs.Lists.{get_push_cases}
 use Rattle.hp_schedules.specs.Notes.{AddsEnd, TallyValue}
 use Rattle.hp_schedules.specs.Outcomes.{OutcomeValue}
-use Rattle.hp_schedules.specs.Shares.{AddsAt, AreAtEnds, AreSince, amount_of, count_for}
+use Rattle.hp_schedules.specs.Shares.{AddsAt, AreAtEnds, amount_of, count_for}
 use Rattle.hp_schedules.specs.Trails.{AddsUp, IsGathered, IsSummedUp, KeepsBefore, left_over}
 use Rattle.hp_schedules.specs.declared.trail.Share.{Share}
-use Rattle.hp_schedules.specs.declared.tally.Ending.{Ending}
 use Rattle.hp_schedules.proofs.Counts.{get_set_cases}
 use Rattle.hp_schedules.proofs.Shares.{amount_past, amount_push, at_ends_more, at_ends_push, other_share, own_share, shared}
 
@@ -49,7 +48,19 @@ summed_with old new start end at place s t here there own from below to is =
       before = take-set-le start old place more from;
       not_less = omega arith;
       within = omega arith;
-      same = same;
+      same = λ f adds.
+          omega (
+            arith,
+            sum_by-take-drop f (set old place more) end,
+            ap (sum_by f) (drop-set-lt end old place more below),
+            sum_by-set f old place more t (slice_get_within old place t there),
+            ap f (get_or_from_slice_get old place t t there),
+            sum_by-take-drop f old end,
+            sum_by-drop_more f old at s (slice_get_within old at s here),
+            ap f (get_or_from_slice_get old at s s here),
+            ap (sum_by f) (drop-set-lt (at + 1) old place more (omega arith)),
+            gives f adds,
+          );
       at_ends = λ many at. at_ends_set old place more many (at place t there) at;
     })
   where
@@ -59,22 +70,6 @@ summed_with old new start end at place s t here there own from below to is =
     gives : (f : Share → ℕ) → AddsUp f → f more ≡ f t + f s
     gives f adds =
         rw (← own) (adds t.end t.count s.count)
-
-    same : (f : Share → ℕ) → AddsUp f
-        → left_over f end (at + 1) (set old place more) ≡ left_over f end at old
-    same f adds =
-        omega (
-          arith,
-          sum_by-take-drop f (set old place more) end,
-          ap (sum_by f) (drop-set-lt end old place more below),
-          sum_by-set f old place more t (slice_get_within old place t there),
-          ap f (get_or_from_slice_get old place t t there),
-          sum_by-take-drop f old end,
-          sum_by-drop_more f old at s (slice_get_within old at s here),
-          ap f (get_or_from_slice_get old at s s here),
-          ap (sum_by f) (drop-set-lt (at + 1) old place more (omega arith)),
-          gives f adds,
-        )
 
 -- or it has none
 pub summed_first : (old new : List Share) (start end at : ℕ) (s : Share)
@@ -86,24 +81,20 @@ summed_first old new start end at s here from to is =
       before = take-set-le start old end s from;
       not_less = omega arith;
       within = omega arith;
-      same = same;
+      same = λ f adds.
+          omega (
+            arith,
+            ap (sum_by f) (take_more_set old end s (omega (arith, within, to))),
+            sum_by_push f (take end old) s,
+            sum_by-drop_more f old at s within,
+            ap f (get_or_from_slice_get old at s s here),
+            ap (sum_by f) (drop-set-lt (at + 1) old end s (omega arith)),
+          );
       at_ends = λ many ends. at_ends_set old end s many (ends at s here) ends;
     })
   where
     within : at < length old
     within = slice_get_within old at s here
-
-    same : (f : Share → ℕ) → AddsUp f
-        → left_over f (end + 1) (at + 1) (set old end s) ≡ left_over f end at old
-    same f adds =
-        omega (
-          arith,
-          ap (sum_by f) (take_more_set old end s (omega (arith, within, to))),
-          sum_by_push f (take end old) s,
-          sum_by-drop_more f old at s within,
-          ap f (get_or_from_slice_get old at s s here),
-          ap (sum_by f) (drop-set-lt (at + 1) old end s (omega arith)),
-        )
 
 -- the sum fits
 pub sum_fits : (old : List Share) (end at place most : ℕ) (s t : Share)
@@ -230,7 +221,20 @@ pub keeps_at : (old new : TallyValue) (at count : ℕ) → AddsAt old.ends at co
     → KeepsBefore (length old.trail) old new
 keeps_at old new at count adds is = record {
   longer = rw (is, length_push) (omega arith);
-  told = told;
+  told = λ s earlier le short was.
+      rw (adds.new_is, is, drop-append-le s old.trail (one ∷ []) le) (record {
+        at_ends =
+            rw length-set (at_ends_push (drop s old.trail) one (length old.ends) within was.at_ends);
+        each = λ k f h.
+            elim (get_set_cases old.ends at adds.more k f h) [
+              | inl x ↦
+                  rw (← x.1, adds.count_is, amount_push, own_share one k (sym x.0))
+                  (omega (arith, was.each k adds.entry (rw x.0 adds.here)))
+              | inr x ↦
+                  rw (amount_push, other_share one k (λ same. x.0 (sym same)))
+                  (omega (arith, was.each k f x.1))
+            ];
+      });
 }
   where
     one : Share
@@ -239,27 +243,6 @@ keeps_at old new at count adds is = record {
     within : at < length old.ends
     within = slice_get_within old.ends at adds.entry adds.here
 
-    told : (s : ℕ) (earlier : List ℕ) → s ≤ length old.trail → length earlier ≤ length old.ends
-        → AreSince earlier old.ends (drop s old.trail) → AreSince earlier new.ends (drop s new.trail)
-    told s earlier le short was =
-        rw (adds.new_is, is, drop-append-le s old.trail (one ∷ []) le) (record {
-          at_ends =
-              rw length-set (at_ends_push (drop s old.trail) one (length old.ends) within was.at_ends);
-          each = each;
-        })
-      where
-        each : (k : ℕ) (f : Ending) → slice_get (set old.ends at adds.more) k ≡ Some f
-            → get_or earlier k 0 + amount_of (drop s old.trail ++ one ∷ []) k ≡ f.count
-        each k f h =
-            elim (get_set_cases old.ends at adds.more k f h) [
-              | inl x ↦
-                  rw (← x.1, adds.count_is, amount_push, own_share one k (sym x.0))
-                  (omega (arith, was.each k adds.entry (rw x.0 adds.here)))
-              | inr x ↦
-                  rw (amount_push, other_share one k (λ same. x.0 (sym same)))
-                  (omega (arith, was.each k f x.1))
-            ]
-
 -- an end that is new
 pub keeps_end : (old new : TallyValue) (x : OutcomeValue) (schedule : List ℕ)
     → AddsEnd old.ends x schedule new.ends
@@ -267,26 +250,13 @@ pub keeps_end : (old new : TallyValue) (x : OutcomeValue) (schedule : List ℕ)
     → KeepsBefore (length old.trail) old new
 keeps_end old new x schedule adds is = record {
   longer = rw (is, length_push) (omega arith);
-  told = told;
-}
-  where
-    one : Share
-    one = record { end = length old.ends; count = 1 }
-
-    told : (s : ℕ) (earlier : List ℕ) → s ≤ length old.trail → length earlier ≤ length old.ends
-        → AreSince earlier old.ends (drop s old.trail) → AreSince earlier new.ends (drop s new.trail)
-    told s earlier le short was =
-        rw (adds.new_is, is, drop-append-le s old.trail (one ∷ []) le) (record {
-          at_ends =
-              rw length_push (at_ends_push (drop s old.trail) one (length old.ends + 1) (omega arith)
-              (at_ends_more (drop s old.trail) (length old.ends) (length old.ends + 1) (omega arith)
-              was.at_ends));
-          each = each;
-        })
-      where
-        each : (k : ℕ) (f : Ending) → slice_get (old.ends ++ adds.entry ∷ []) k ≡ Some f
-            → get_or earlier k 0 + amount_of (drop s old.trail ++ one ∷ []) k ≡ f.count
-        each k f h =
+  told = λ s earlier le short was.
+      rw (adds.new_is, is, drop-append-le s old.trail (one ∷ []) le) (record {
+        at_ends =
+            rw length_push (at_ends_push (drop s old.trail) one (length old.ends + 1) (omega arith)
+            (at_ends_more (drop s old.trail) (length old.ends) (length old.ends + 1) (omega arith)
+            was.at_ends));
+        each = λ k f h.
             elim (get_push_cases old.ends adds.entry f k h) [
               | inl there ↦ (let less = slice_get_within old.ends k f there in
                   rw (amount_push, other_share one k (λ same. omega (arith, same, less)))
@@ -295,13 +265,25 @@ keeps_end old new x schedule adds is = record {
                   let none =
                   amount_past (drop s old.trail) (length old.ends) k was.at_ends (omega (arith, here.0)) in
                   rw (← here.1, adds.count, amount_push, own_share one k (sym here.0), past, none))
-            ]
+            ];
+      });
+}
+  where
+    one : Share
+    one = record { end = length old.ends; count = 1 }
 
 -- sums in place of shares
 pub keeps_gathered : (old new : TallyValue) (start : ℕ) → new.ends ≡ old.ends
     → IsGathered start old.trail new.trail → AreAtEnds (length old.ends) old.trail
     → KeepsBefore start old new
-keeps_gathered old new start same all at_ends = record { longer = all.longer; told = told }
+keeps_gathered old new start same all at_ends = record {
+  longer = all.longer;
+  told = λ s earlier le short was.
+      rw same (record {
+        at_ends = at_ends_drop (length old.ends) s new.trail (all.at_ends (length old.ends) at_ends);
+        each = λ k e h. rw (amounts s k le) (was.each k e h);
+      });
+}
   where
     shorter : (s : ℕ) → s ≤ start → take s new.trail ≡ take s old.trail
     shorter s le =
@@ -315,11 +297,3 @@ keeps_gathered old new start same all at_ends = record { longer = all.longer; to
           sum_by-take-drop (count_for k) old.trail s,
           gathered_gives start old.trail new.trail (count_for k) (amounts_add_up k) all,
         )
-
-    told : (s : ℕ) (earlier : List ℕ) → s ≤ start → length earlier ≤ length old.ends
-        → AreSince earlier old.ends (drop s old.trail) → AreSince earlier new.ends (drop s new.trail)
-    told s earlier le short was =
-        rw same (record {
-          at_ends = at_ends_drop (length old.ends) s new.trail (all.at_ends (length old.ends) at_ends);
-          each = λ k e h. rw (amounts s k le) (was.each k e h);
-        })

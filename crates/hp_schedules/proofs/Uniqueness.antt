@@ -1,49 +1,9 @@
 -- There is only one number of schedules of a kind.
-use Rattle.std.proofs.Common.{◌≡◌, ℕ, zero, suc, ◌<◌, ◌≤◌, List, length, Option, Some, None, slice_get, refl, ap, sym, ◌∙◌, arith, inl, inr}
-use Rattle.std.specs.Prelude.{◌⊎◌}
-use Rattle.std.proofs.lemmas.Bool.{cases_eq}
+use Rattle.std.proofs.Common.{◌≡◌, ℕ, ◌<◌, ◌≤◌, List, length, Option, Some, None, slice_get, refl, ap, sym, ◌∙◌, arith}
 use Rattle.std.proofs.lemmas.Option.{same_Some, slice_get_within}
+use Rattle.indexmap.proofs.IndexTableLemmas.Probe.{pigeonhole}
 use Rattle.hp_laws.proofs.Lists.{get_some}
 use Rattle.hp_schedules.specs.Orders.{AreSome, HasCount, HasMoreThan, Lists}
-
--- ---- no more places than numbers below a bound, if no two have the same number
-
-abbrev choose : {P Q : Type 0} → P ⊎ Q → ℕ → ℕ → ℕ
-choose (inl p) a b = a
-choose (inr q) a b = b
-
-places_below : (m n : ℕ) (f : ℕ → ℕ) → ((i : ℕ) → i < n → f i < m)
-    → ((i j : ℕ) → i < n → j < n → f i ≡ f j → i ≡ j) → n ≤ m
-places_below m zero f low apart = omega arith
-places_below zero (suc n) f low apart = absurd (omega (arith, low 0 (omega arith)))
-places_below (suc m) (suc n) f low apart = omega (arith, places_below m n g low_g apart_g)
-  where
-    g : ℕ → ℕ
-    g i = choose (cases_eq (f i) m) (f n) (f i)
-
-    last_low : (i : ℕ) → i < n → f i ≡ m → f n < m
-    last_low i less same =
-        elim (cases_eq (f n) m) [
-          | inl at ↦ absurd (omega (arith, apart i n (omega arith) (omega arith) (same ∙ sym at)))
-          | inr off ↦ omega (arith, low n (omega arith))
-        ]
-
-    low_g : (i : ℕ) → i < n → g i < m
-    low_g i less = by_case (cases_eq (f i) m)
-      where
-        by_case : (d : (f i ≡ m) ⊎ (f i ≡ m → ⊥)) → choose d (f n) (f i) < m
-        by_case (inl same) = last_low i less same
-        by_case (inr off) = omega (arith, low i (omega arith))
-
-    apart_g : (i j : ℕ) → i < n → j < n → g i ≡ g j → i ≡ j
-    apart_g i j li lj = by_case (cases_eq (f i) m) (cases_eq (f j) m)
-      where
-        by_case : (d : (f i ≡ m) ⊎ (f i ≡ m → ⊥)) (e : (f j ≡ m) ⊎ (f j ≡ m → ⊥))
-            → choose d (f n) (f i) ≡ choose e (f n) (f j) → i ≡ j
-        by_case (inl a) (inl b) h = apart i j (omega arith) (omega arith) (a ∙ sym b)
-        by_case (inl a) (inr b) h = absurd (omega (arith, apart n j (omega arith) (omega arith) h))
-        by_case (inr a) (inl b) h = absurd (omega (arith, apart i n (omega arith) (omega arith) h))
-        by_case (inr a) (inr b) h = apart i j (omega arith) (omega arith) h
 
 -- ---- two lists of the same schedules
 
@@ -60,7 +20,7 @@ place_is P xs ys a b i None e s is = absurd cc
 place_is P xs ys a b i (Some t) e s is = (b.every t (a.each i t e)).1 ∙ is
 
 no_longer : (P : List ℕ → Type 0) (xs ys : List (List ℕ)) → AreSome P xs → Lists P ys → length xs ≤ length ys
-no_longer P xs ys a b = places_below (length ys) (length xs) f low apart
+no_longer P xs ys a b = pigeonhole (length xs) (length ys) f low apart
   where
     f : ℕ → ℕ
     f i = place_in P xs ys a b i (slice_get xs i) refl

@@ -1,21 +1,21 @@
 -- What lines ask for does not depend on their receipts' serials, but for the results that they work
 -- on.
-use Rattle.std.proofs.Common.{◌≡◌, ℕ, ◌+◌, true, false, cond, get_or, ltb, List, [], ◌∷◌, ◌++◌, map, Option, Some, None, refl, subst}
+use Rattle.std.proofs.Common.{◌≡◌, ℕ, true, get_or, ltb, List, [], ◌∷◌, ◌++◌, map, Option, Some, None, inl, inr, refl, subst}
 use Rattle.std.specs.Prelude.{option_map}
 use Rattle.std.specs.List.{last_or, list_all}
-use Rattle.std.specs.Option.{option_map_or}
 use Rattle.std.proofs.lemmas.Bool.{and_parts}
 use Rattle.std.proofs.lemmas.List.{map-append}
 use Rattle.std.proofs.lemmas.List.Sums.{sum_by-cons}
-use Rattle.hp_units.specs.Driver.{migrate_or_cancel, next_after, next_drain, next_event, tried}
+use Rattle.hp_units.specs.Driver.{next_after, next_event, tried}
 use Rattle.hp_units.specs.History.{effect_of}
 use Rattle.hp_units.specs.declared.events.Event.{Event}
-use Rattle.hp_units.specs.declared.events.Event.TheVariants.{Begin, DrainFor, Migrate, Commit, Cancel}
+use Rattle.hp_units.specs.declared.events.Event.TheVariants.{Begin, DrainFor, Migrate, Commit, UndoAfter}
 use Rattle.hp_units.specs.declared.plans.Item.{Item}
 use Rattle.hp_units.specs.declared.replies.Receipt.{Receipt}
 use Rattle.hp_units.specs.declared.replies.Refusal.TheVariants.{NoFrame, NothingToMove, NotFree}
 use Rattle.hp_units.specs.declared.replies.Reply.{Reply}
 use Rattle.hp_units.specs.declared.replies.Reply.TheVariants.{Done, Moved, Opened, Refused}
+use Rattle.hp_laws.proofs.NumberedOptions.{cases_option}
 use Rattle.hp_schedules.specs.Alike.{is_mergeable_line, leaves_steps, unnumbered}
 use Rattle.hp_schedules.specs.Scripts.{Known, after_line, line_next, next_in, once, step_work_of, work_of}
 use Rattle.hp_schedules.specs.declared.scripts.OwnWork.{OwnWork}
@@ -24,6 +24,7 @@ use Rattle.hp_schedules.specs.declared.scripts.Step.{Step}
 use Rattle.hp_schedules.specs.declared.scripts.Step.TheVariants.{Ask, Own, Carry}
 use Rattle.hp_schedules.specs.declared.scripts.StepWork.{StepWork}
 use Rattle.hp_schedules.specs.declared.scripts.StepWork.TheVariants as work
+use Rattle.hp_schedules.proofs.Begun.{all_work, next_works}
 
 -- ---- the driver
 
@@ -55,12 +56,9 @@ last_same (r ∷ rs) o = last_same rs (Some r)
 driver_same : (cpus turns : ℕ) (plan : List Item) (rs : List Receipt)
     → next_event cpus turns plan (plain rs) ≡ next_event cpus turns plan rs
 driver_same cpus turns plan rs =
-    rw (last_same rs None) (elim (last_or None rs) as (λ o.
-    option_map_or (λ r. next_after cpus turns (plain rs) r.event r.reply) (option_map unnumbered o)
-    (Some (Begin plan))
-    ≡ option_map_or (λ r. next_after cpus turns rs r.event r.reply) o (Some (Begin plan))) [
-      | None ↦ refl
-      | Some r ↦ after_same cpus turns (plain rs) rs (rw (tried_same rs)) r.event r.reply
+    rw (last_same rs None) (elim (cases_option (last_or None rs)) [
+      | inl none ↦ rw none
+      | inr r ↦ rw r.1 (after_same cpus turns (plain rs) rs (rw (tried_same rs)) r.0.event r.0.reply)
     ])
 
 -- ---- lines
@@ -80,16 +78,12 @@ rest_same : (cpus : ℕ) (known : Known) (line : Step) (earlier later : List Rec
     → after_line cpus known line (plain earlier) (plain later)
     ≡ option_map plain (after_line cpus known line earlier later)
 rest_same cpus known line earlier [] =
-    rw (line_same cpus known line earlier) (elim (line_next cpus known line earlier) as (λ o.
-    option_map_or (λ event. None) o (Some [])
-    ≡ option_map plain (option_map_or (λ event. None) o (Some []))) [ None ↦ refl | Some e ↦ refl ])
+    rw (line_same cpus known line earlier)
+    (elim (cases_option (line_next cpus known line earlier)) [ inl none ↦ rw none | inr e ↦ rw e.1 ])
 rest_same cpus known line earlier (r ∷ rs) =
     rw (line_same cpus known line earlier, ← map-append unnumbered earlier (r ∷ []))
-    (elim (line_next cpus known line earlier) as (λ o.
-    option_map_or (λ event. after_line cpus known line (plain (earlier ++ r ∷ [])) (plain rs)) o
-    (Some (plain (r ∷ rs)))
-    ≡ option_map plain (option_map_or (λ event. after_line cpus known line (earlier ++ r ∷ []) rs) o
-    (Some (r ∷ rs)))) [ None ↦ refl | Some e ↦ rest_same cpus known line (earlier ++ r ∷ []) rs ])
+    (elim (cases_option (line_next cpus known line earlier))
+    [ inl none ↦ rw none | inr e ↦ rw e.1 (rest_same cpus known line (earlier ++ r ∷ []) rs) ])
 
 -- what lines ask for
 pub next_plain : (cpus : ℕ) (known : Known) (lines : List Step) (rs : List Receipt)
@@ -97,10 +91,8 @@ pub next_plain : (cpus : ℕ) (known : Known) (lines : List Step) (rs : List Rec
 next_plain cpus known [] rs = refl
 next_plain cpus known (line ∷ lines) rs =
     rw (rest_same cpus known line [] rs, line_same cpus known line rs)
-    (elim (after_line cpus known line [] rs) as (λ o.
-    option_map_or (λ rest. next_in cpus known lines rest) (option_map plain o) (line_next cpus known line rs)
-    ≡ option_map_or (λ rest. next_in cpus known lines rest) o (line_next cpus known line rs))
-    [ None ↦ refl | Some rest ↦ next_plain cpus known lines rest ])
+    (elim (cases_option (after_line cpus known line [] rs))
+    [ inl none ↦ rw none | inr rest ↦ rw rest.1 (next_plain cpus known lines rest.0) ])
 
 -- ---- no line undoes anything by serials
 
@@ -108,28 +100,10 @@ abbrev Leaves : Option Event → Type 0
 Leaves None = Unit {0}
 Leaves (Some e) = leaves_steps (effect_of e) ≡ true
 
-turn_leaves : (turns op : ℕ) (rs : List Receipt)
-    → leaves_steps (effect_of (migrate_or_cancel turns op rs)) ≡ true
-turn_leaves turns op rs =
-    elim (ltb (tried rs) turns) as (λ b. leaves_steps (effect_of (cond b (Migrate op) (Cancel op))) ≡ true)
-    [ true ↦ refl | false ↦ refl ]
-
-drain_leaves : (cpus turns op cpu : ℕ) (rs : List Receipt)
-    → leaves_steps (effect_of (next_drain cpus turns op cpu rs)) ≡ true
-drain_leaves cpus turns op cpu rs =
-    elim (ltb cpu cpus) as
-    (λ b. leaves_steps (effect_of (cond b (DrainFor op cpu) (migrate_or_cancel turns op rs))) ≡ true)
-    [ true ↦ refl | false ↦ turn_leaves turns op rs ]
-
-after_leaves : (cpus turns : ℕ) (rs : List Receipt) (e : Event) (reply : Reply)
-    → Leaves (next_after cpus turns rs e reply)
-after_leaves cpus turns rs (Begin plan) (Opened op) = drain_leaves cpus turns op 0 rs
-after_leaves cpus turns rs (DrainFor op cpu) Done = drain_leaves cpus turns op (cpu + 1) rs
-after_leaves cpus turns rs (Migrate op) (Moved from to) = turn_leaves turns op rs
-after_leaves cpus turns rs (Migrate op) (Refused NoFrame) = drain_leaves cpus turns op 0 rs
-after_leaves cpus turns rs (Migrate op) (Refused NothingToMove) = refl
-after_leaves cpus turns rs (Commit op) (Refused (NotFree frame)) = drain_leaves cpus turns op 0 rs
-after_leaves cpus turns rs e reply = tt
+works_leave : (o : Option Event) → all_work o ≡ true → Leaves o
+works_leave None is = tt
+works_leave (Some (UndoAfter serial)) is = absurd cc
+works_leave (Some e) is = refl
 
 step_leaves : (op : ℕ) (work : StepWork) → leaves_steps (effect_of (step_work_of op work)) ≡ true
 step_leaves op (work.DrainFor cpu) = refl
@@ -148,18 +122,17 @@ line_leaves : (cpus : ℕ) (known : Known) (line : Step) (rs : List Receipt) →
     → Leaves (line_next cpus known line rs)
 line_leaves cpus known (Ask event) rs leaves = once_leaves event rs leaves
 line_leaves cpus known (Own work) rs leaves = once_leaves (work_of known work) rs (work_leaves known work)
-line_leaves cpus known (Carry plan turns) rs leaves = elim (last_or None rs) as (λ o.
-    Leaves (option_map_or (λ r. next_after cpus turns rs r.event r.reply) o (Some (Begin plan))))
-    [ None ↦ refl | Some r ↦ after_leaves cpus turns rs r.event r.reply ]
+line_leaves cpus known (Carry plan turns) rs leaves = elim (cases_option (last_or None rs)) [
+  | inl none ↦ rw none refl
+  | inr r ↦ rw r.1 (works_leave _ (next_works cpus turns rs r.0.event r.0.reply))
+]
 
 pub lines_leave : (cpus : ℕ) (known : Known) (lines : List Step) (rs : List Receipt) (e : Event)
     → list_all is_mergeable_line lines ≡ true → next_in cpus known lines rs ≡ Some e
     → leaves_steps (effect_of e) ≡ true
 lines_leave cpus known [] rs e all is = absurd cc
 lines_leave cpus known (line ∷ lines) rs e all is =
-    (elim (after_line cpus known line [] rs) as (λ o.
-    option_map_or (λ rest. next_in cpus known lines rest) o (line_next cpus known line rs) ≡ Some e
-    → leaves_steps (effect_of e) ≡ true) [
-      | None ↦ λ h. subst Leaves h (line_leaves cpus known line rs (and_parts _ _ all).0)
-      | Some rest ↦ λ h. lines_leave cpus known lines rest e (and_parts _ _ all).1 h
-    ]) is
+    elim (cases_option (after_line cpus known line [] rs)) [
+      | inl none ↦ subst Leaves (rw none at is) (line_leaves cpus known line rs (and_parts _ _ all).0)
+      | inr rest ↦ lines_leave cpus known lines rest.0 e (and_parts _ _ all).1 (rw rest.1 at is)
+    ]

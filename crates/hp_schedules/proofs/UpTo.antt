@@ -25,14 +25,13 @@ pub settled_run : (cpus : ℕ) (lines : List Step) (receipts : List Receipt) (c 
     → slice_get lines c.line ≡ Some line → is_one_call line ≡ false → n.line ≡ c.line
     → MovesOn c.driver r.event r.reply n.driver → IsCursor cpus lines receipts c → IsSettled lines n
 settled_run cpus lines receipts c n line r here one same moves is off =
-    let on = by_line line (at_first cpus lines receipts c line is here) one in
+    let on = by_line _ (at_first cpus _ receipts c _ is here) one in
     let at = rw (same, here) at off in
     absurd cc
   where
     by_line : (l : Step) → IsInFirst cpus (l ∷ drop (c.line + 1) lines) is.own c.driver
         → is_one_call l ≡ false → carries n l ≡ true
-    by_line (Carry plan turns) at several =
-        begun_after cpus turns is.own r n.driver (moves cpus turns is.own r refl refl at.0)
+    by_line (Carry plan turns) at several = begun_after _ _ _ r _ (moves cpus turns is.own r refl refl at.0)
     by_line l at several = absurd cc
 
 -- ---- the answers up to a cursor

@@ -9,7 +9,7 @@ use Rattle.hp_units.specs.Receipts.{receipts_of}
 use Rattle.hp_units.specs.declared.events.Event.{Event}
 use Rattle.hp_units.specs.declared.replies.Receipt.{Receipt}
 use Rattle.hp_units.specs.declared.replies.Record.{Record}
-use Rattle.hp_renumbering.specs.Renumbered.{IsOneToOne, renumbered, renumbered_event, renumbered_reply}
+use Rattle.hp_laws.specs.Renumbered.{IsOneToOne, renumbered, renumbered_event, renumbered_reply}
 use Rattle.hp_schedules.specs.Openings.{AreOpen, Opening, renumbered_opening}
 use Rattle.hp_schedules.specs.Outcomes.{ended_rows_below}
 use Rattle.hp_schedules.specs.Schedules.{Setting, next_call, plays}

@@ -1,6 +1,6 @@
 //! A driver's last refusal as numbers.
 ghost use Rattle.std.specs.Prelude.{◌≡◌};
-ghost use Rattle.hp_schedules.specs.Causes.{cause_numbers, refusal_numbers};
+ghost use Rattle.hp_schedules.specs.Causes.{cause_numbers};
 
 use hp_units::Refusal;
 
@@ -9,17 +9,10 @@ use hp_units::Refusal;
 pub(crate) fn cause_numbers(why: Option<Refusal>) -> [u32; 2]
     ensures { result ≡ cause_numbers why }
 {
-    match why {
-        Some(refusal) => refusal_numbers(&refusal),
-        None => [0, 0],
-    }
-}
-
-/// Returns the number of a refusal's kind, and the block or frame that it names, or 0.
-fn refusal_numbers(refusal: &Refusal) -> [u32; 2]
-    ensures { result ≡ refusal_numbers refusal.now }
-{
-    match refusal {
+    let Some(refusal) = why else {
+        return [0, 0];
+    };
+    match &refusal {
         Refusal::NoOwner => [1, 0],
         Refusal::NoPage => [2, 0],
         Refusal::NoWord => [3, 0],

@@ -4,17 +4,17 @@ ghost use Rattle.std.specs.Option.{option_map_or};
 ghost use Rattle.hp_units.specs.Receipts.{receipt_of, receipts_of};
 ghost use Rattle.hp_units.specs.declared.events.Event.{Event as AnyEvent};
 ghost use Rattle.hp_units.specs.declared.replies.Receipt.{Receipt};
-ghost use Rattle.hp_renumbering.specs.Numberings.{number_of};
-ghost use Rattle.hp_schedules.specs.Causes.{cause_in, met_at};
-ghost use Rattle.hp_schedules.specs.Cursors.{IsAsked, IsCursor, IsRequested, IsSettled, asks, asks_at, carried, cursor_at, driver_before, first_driver, frames_ahead, frames_named, has_carried, is_carrying, steering_of};
+ghost use Rattle.hp_laws.specs.Numberings.{number_of};
+ghost use Rattle.hp_schedules.specs.Causes.{cause_in};
+ghost use Rattle.hp_schedules.specs.Cursors.{IsAsked, IsCursor, IsRequested, IsSettled, asks, asks_at, carried, cursor_at, driver_before, first_driver, frames_ahead, frames_named, is_carrying, steering_of};
 ghost use Rattle.hp_schedules.specs.LineAnswers.{IsAnswered, answers_in};
 ghost use Rattle.hp_schedules.specs.Scripts.{frames_of, next_of};
 
 use crate::line_answers::{FinishedLine, LineAnswer, plan_answer};
 use crate::results::{frame_count, nth_frame};
 use crate::scripts::{CallScript, OwnWork, Step, later_operation};
+use hp_laws::number_of;
 use hp_ops::Driver;
-use hp_renumbering::number_of;
 use hp_units::{Cpu, Event, Record, Refusal, Reply, Serial};
 use std::alloc::{AllocError, Global};
 
@@ -198,11 +198,10 @@ impl Cursor {
         let Some(line) = lines.get(self.line) else {
             return self.line;
         };
-        if self.has_carried(line) {
-            self.line + 1
-        } else {
-            self.line
+        if line.is_one_call() || !self.driver.is_over() {
+            return self.line;
         }
+        self.line + 1
     }
 
     /// Returns the line that the latest call finished, or `None` if it finished none. The cursor is
@@ -235,18 +234,7 @@ impl Cursor {
         let Some(line) = lines.get(self.line) else {
             return None;
         };
-        self.met_at(line)
-    }
-
-    /// Returns the last refusal of a migration or a commit in the line's plan, if the plan is in
-    /// progress and met one.
-    fn met_at(&self, line: &Step) -> Option<Refusal>
-        ensures { result ≡ met_at self.now line.now }
-    {
-        if line.is_one_call() {
-            return None;
-        }
-        if self.driver.is_over() {
+        if line.is_one_call() || self.driver.is_over() {
             return None;
         }
         self.driver.why()
@@ -260,13 +248,6 @@ impl Cursor {
             Some(line) => !line.is_one_call() && self.driver.has_begun(),
             None => false,
         }
-    }
-
-    /// Returns whether the line is a plan that has ended.
-    fn has_carried(&self, line: &Step) -> bool
-        ensures { result ≡ has_carried self.now line.now }
-    {
-        !line.is_one_call() && self.driver.is_over()
     }
 
     /// Returns the cursor's line with the end of its plan, or `None` if the driver goes on.

@@ -2,7 +2,7 @@
 ghost use Rattle.std.specs.Prelude.{◌≡◌, ◌<◌, ◌++◌, ◌∷◌, ℕ, true, [], IfOk, List, OnOk, Some, length, map, slice_set};
 ghost use Rattle.hp_units.specs.Receipts.{receipts_of};
 ghost use Rattle.hp_units.specs.declared.replies.Record.{Record as NewRecord};
-ghost use Rattle.hp_renumbering.specs.Numberings.{number_of};
+ghost use Rattle.hp_laws.specs.Numberings.{number_of};
 ghost use Rattle.hp_schedules.specs.Causes.{IsCaused};
 ghost use Rattle.hp_schedules.specs.Cursors.{AreCursors, IsCalledFor, IsSteered, cursor_at};
 ghost use Rattle.hp_schedules.specs.LineAnswers.{IsAnswered, answers_at};
@@ -116,7 +116,7 @@ impl Positions {
     /// of its n-th Begin, its further calls depend only on these numbers and on the receipts of
     /// those calls.
     ///
-    /// `fixed` and `latest` number the operations, as [`number_of`](hp_renumbering::number_of) does.
+    /// `fixed` and `latest` number the operations, as [`number_of`](hp_laws::number_of) does.
     pub fn push_steering(
         &self,
         scripts: &[CallScript],

@@ -191,8 +191,8 @@ impl Tally {
         self.ends.reserve(1)?;
         learn(&mut self.latest, digest, end)?;
         let entry = new_end(alloc, processors, records, blocks)?;
-        self.trail.add_end()?;
-        self.trail.push(Share { end, count: 1 })?;
+        self.trail.places.push(0)?;
+        self.trail.shares.push(Share { end, count: 1 })?;
         self.ends.push_reserved(entry);
         self.total += 1;
         Ok(())
@@ -225,7 +225,7 @@ impl Tally {
         ensures shares { result.now ≡ drop start self.now.trail }
         ensures at_ends { AreAtEnds (length self.now.ends) result.now }
     {
-        self.trail.since(start)
+        &self.trail.shares[start..]
     }
 
     /// Replaces the shares of the trail from index `start` on by their sums, one for each end.
@@ -263,7 +263,7 @@ impl Tally {
         ensures limit { self.new.limit ≡ self.old.limit }
         ensures err { OnErr result (self.new ≡ self.old) }
     {
-        self.trail.push(Share { end: place, count })?;
+        self.trail.shares.push(Share { end: place, count })?;
         let end = &mut self.ends[place];
         end.count += count;
         self.total += count;

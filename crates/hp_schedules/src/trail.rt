@@ -1,8 +1,6 @@
 //! The trail: how many schedules were added to which end, in order.
-ghost use Rattle.std.specs.Prelude.{◌≡◌, ◌+◌, ◌++◌, ◌∷◌, [], ◌<◌, ◌≤◌, ◌^◌, IfSome, OnErr, OnOk, drop, length, sum_by};
+ghost use Rattle.std.specs.Prelude.{◌≡◌, ◌+◌, ◌<◌, ◌≤◌, ◌^◌, IfSome, length, sum_by};
 ghost use Rattle.hp_schedules.specs.Trails.{IsGathered, IsShareOf, IsSummedUp, left_over};
-
-use std::alloc::AllocError;
 
 /// An end, and a number of schedules that lead to it, such as those that continue from one place.
 #[derive(Clone, Copy, Drop)]
@@ -25,31 +23,6 @@ pub(crate) struct Trail {
 }
 
 impl Trail {
-    /// Returns the shares from index `start` on.
-    pub(crate) fn since(&self, start: usize) -> &[Share]
-        requires { start ≤ length self.now.shares.items }
-        ensures { result.now ≡ drop start self.now.shares.items }
-    {
-        &self.shares[start..]
-    }
-
-    /// Adds the entry of one more end to `places`.
-    pub(crate) fn add_end(&mut self) -> Result<(), AllocError>
-        ensures { self.new.shares.items ≡ self.old.shares.items }
-    {
-        self.places.push(0)?;
-        Ok(())
-    }
-
-    /// Appends a share.
-    pub(crate) fn push(&mut self, share: Share) -> Result<(), AllocError>
-        ensures ok { OnOk result (self.new.shares.items ≡ self.old.shares.items ++ share ∷ []) }
-        ensures err { OnErr result (self.new.shares.items ≡ self.old.shares.items) }
-    {
-        self.shares.push(share)?;
-        Ok(())
-    }
-
     /// Replaces the shares from index `start` on by their sums, one for each end.
     pub(crate) fn gather(&mut self, start: usize)
         requires within { start ≤ length self.old.shares.items }

@@ -3,8 +3,8 @@ use Rattle.std.proofs.Common.{◌≡◌, ℕ, ◌-◌, ◌≤◌, List, length, 
 use Rattle.std.proofs.lemmas.Option.{slice_get_read}
 use Rattle.hp_scenario.specs.declared.lines.Line.{Line}
 use Rattle.hp_scenario.specs.Scenario.{ScenarioValue}
-use Rattle.hp_names.specs.Named.{NamedValue, named_in}
-use Rattle.hp_names.specs.Resolved.{Resolves}
+use Rattle.hp_scripts.specs.Named.{NamedValue, named_in}
+use Rattle.hp_scripts.specs.Resolved.{Resolves}
 use Rattle.hp_explore.specs.declared.exploring.ExploreFault.{ExploreFault}
 use Rattle.hp_explore.specs.declared.exploring.ExploreFault.TheVariants as explore
 use Rattle.hp_schedules.specs.declared.tally.Ending.{Ending}
@@ -17,9 +17,9 @@ use Rattle.hp_search.specs.Faults.{IsFaultWith, IsFull, IsFullTold, IsToldAs, Is
 use Rattle.hp_search.specs.Holding.{HoldsAfter, HoldsIn, InScenario}
 use Rattle.hp_search.specs.Prepared.{IsPrepared, IsUnprepared, before_of, names_of, setting_of}
 use Rattle.hp_search.specs.declared.prepared.Prepared.{Prepared}
-use Rattle.hp_starts.specs.Starts.{HasNoStart}
-use Rattle.hp_starts.specs.declared.start_fault.StartFault.{StartFault}
-use Rattle.hp_starts.specs.declared.start_fault.StartFault.TheVariants as start
+use Rattle.hp_scripts.specs.Starts.{HasNoStart}
+use Rattle.hp_scripts.specs.declared.start_fault.StartFault.{StartFault}
+use Rattle.hp_scripts.specs.declared.start_fault.StartFault.TheVariants as start
 
 -- ---- a line that cannot stand in a script
 

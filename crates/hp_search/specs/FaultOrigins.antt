@@ -2,8 +2,8 @@
 use Rattle.std.specs.Prelude.{Bool, true, false}
 use Rattle.hp_scenario.specs.declared.fault.ScenarioFault.{ScenarioFault}
 use Rattle.hp_scenario.specs.declared.fault.ScenarioFault.TheVariants as scenario
-use Rattle.hp_starts.specs.declared.start_fault.StartFault.{StartFault}
-use Rattle.hp_starts.specs.declared.start_fault.StartFault.TheVariants as start
+use Rattle.hp_scripts.specs.declared.start_fault.StartFault.{StartFault}
+use Rattle.hp_scripts.specs.declared.start_fault.StartFault.TheVariants as start
 use Rattle.hp_streams.specs.declared.reading.ReadFault.{ReadFault}
 use Rattle.hp_streams.specs.declared.reading.ReadFault.TheVariants as reading
 use Rattle.hp_search.specs.declared.lab_fault.LabFault.{LabFault}

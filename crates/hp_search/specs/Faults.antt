@@ -7,8 +7,8 @@ use Rattle.hp_explore.specs.Faults.{FillsAlong, IsCause}
 use Rattle.hp_explore.specs.declared.exploring.ExploreFault.{ExploreFault}
 use Rattle.hp_explore.specs.declared.exploring.ExploreFault.TheVariants as explore
 use Rattle.hp_scenario.specs.declared.fault.ScenarioFault.{ScenarioFault}
-use Rattle.hp_names.specs.Named.{named_in}
-use Rattle.hp_starts.specs.Starts.{IsUnfitAfter}
+use Rattle.hp_scripts.specs.Named.{named_in}
+use Rattle.hp_scripts.specs.Starts.{IsUnfitAfter}
 use Rattle.hp_search.specs.FaultOrigins.{fault_from}
 use Rattle.hp_search.specs.declared.lab_fault.LabFault.{LabFault}
 use Rattle.hp_search.specs.declared.lab_fault.LabFault.TheVariants.{NotJson, BadShape, Layout, BadLine, NotForScript, PastLayout, HistoryFull, OutOfMemory}

@@ -4,10 +4,10 @@ use Rattle.hp_machine.specs.Machine.{MachineValue}
 use Rattle.hp_schedules.specs.declared.scripts.Step.{Step}
 use Rattle.hp_schedules.specs.Schedules.{Setting}
 use Rattle.hp_explore.specs.Settings.{setting}
-use Rattle.hp_names.specs.Named.{NamedValue, named_in}
-use Rattle.hp_names.specs.Resolved.{Resolves}
+use Rattle.hp_scripts.specs.Named.{NamedValue, named_in}
+use Rattle.hp_scripts.specs.Resolved.{Resolves}
 use Rattle.hp_scenario.specs.declared.lines.Line.{Line}
-use Rattle.hp_starts.specs.Starts.{HasStart}
+use Rattle.hp_scripts.specs.Starts.{HasStart}
 
 -- the lines after the first `setup` may be in scripts. `P` holds of these scripts, and of the machine
 -- after the first `setup` lines, which are run in order from boot

@@ -7,9 +7,9 @@ use Rattle.hp_schedules.specs.Schedules.{Setting}
 use Rattle.hp_explore.specs.Settings.{setting}
 use Rattle.hp_scenario.specs.declared.lines.Line.{Line}
 use Rattle.hp_scenario.specs.Seen.{scenario_seen}
-use Rattle.hp_names.specs.Named.{NamedValue, named_in}
-use Rattle.hp_names.specs.Resolved.{Resolves}
-use Rattle.hp_starts.specs.Starts.{HasStart}
+use Rattle.hp_scripts.specs.Named.{NamedValue, named_in}
+use Rattle.hp_scripts.specs.Resolved.{Resolves}
+use Rattle.hp_scripts.specs.Starts.{HasStart}
 use Rattle.hp_search.specs.Faults.{IsFaultWith}
 use Rattle.hp_search.specs.declared.lab_fault.LabFault.{LabFault}
 use Rattle.hp_search.specs.declared.prepared.Prepared.{Prepared}

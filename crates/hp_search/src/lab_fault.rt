@@ -3,7 +3,7 @@ ghost use Rattle.std.specs.Prelude.{◌≡◌};
 ghost use Rattle.hp_search.specs.declared.lab_fault.LabFault.TheVariants.{OutOfMemory};
 
 use hp_scenario::{ScenarioFault, Unfit};
-use hp_starts::StartFault;
+use hp_scripts::StartFault;
 use hp_units::LayoutFault;
 use std::alloc::AllocError;
 use std::fmt;

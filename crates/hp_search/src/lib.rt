@@ -1,7 +1,7 @@
 //! What a scenario does in every interleaving of its processors' calls, as text; and the faults of
 //! the program `hotplug_lab`, each with its text.
 //!
-//! hp_starts runs a scenario's setup and makes the scripts, hp_questions defines the lines that an
+//! hp_scripts runs a scenario's setup and makes the scripts, hp_questions defines the lines that an
 //! end must or must not have, and hp_explore searches. This crate joins the three (`prepared`), and
 //! returns what each search found (`exploring`, `threads`, `finding`). It writes ends and schedules
 //! as words, as JSON and as a scenario (`words`, `objects`, `replays`). It opens no file and no

@@ -13,10 +13,9 @@ use crate::lab_fault::LabFault;
 use crate::replay_text;
 use hp_explore::{ExploreFault, play, room_needed};
 use hp_machine::Machine;
-use hp_names::{NamedScenario, resolve_front};
 use hp_scenario::{Line, Scenario};
 use hp_schedules::{HowMany, interleavings_of};
-use hp_starts::{Start, front_of, start_of};
+use hp_scripts::{NamedScenario, Start, front_of, resolve_front, start_of};
 use hp_units::{Cpu, Record};
 use std::alloc::{AllocError, Global};
 

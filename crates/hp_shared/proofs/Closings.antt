@@ -1,8 +1,8 @@
 -- What the lock showed at the end, by what was compared.
-use Rattle.std.proofs.Common.{◌≡◌, ℕ, List, length, refl, sym, subst, ◌∙◌}
+use Rattle.std.proofs.Common.{◌≡◌, ℕ, List, length, arith}
 use Rattle.hp_units.specs.LayoutParts.{LayoutParts}
 use Rattle.hp_history.specs.declared.volumes.Volume.{Volume}
-use Rattle.hp_machine.specs.Machine.{MachineValue, last_serial}
+use Rattle.hp_machine.specs.Machine.{MachineValue}
 use Rattle.hp_shared.specs.declared.closing.CloseFault.{CloseFault}
 use Rattle.hp_shared.specs.Closing.{AreCounted, HasFault, IsChecked, IsClosed}
 use Rattle.hp_shared.specs.Shared.{IsShared, LockedValue, SeatValue}
@@ -26,18 +26,4 @@ pub closed : (l : LayoutParts) (v : LockedValue) (m : MachineValue) (count : ℕ
     (volumes : List Volume)
     → IsShared l v → m ≡ v.machine → (length seats ≡ l.cpus → AreCounted l seats v)
     → IsChecked v.machine l.cpus seats volumes count → IsClosed l seats volumes m count
-closed l v m count seats volumes kept own counted checked = record {
-  shared =
-      subst (λ (x : MachineValue). IsShared l (record { machine = x; total = count })) (sym own) (record {
-        layout = kept.layout;
-        sealed = kept.sealed;
-        history = kept.history;
-        total = all;
-      });
-  checked = subst (λ (x : MachineValue). IsChecked x l.cpus seats volumes count) (sym own) checked;
-  reached = rw (all, ← kept.total) (counted checked.each.count).reached;
-}
-  where
-    all : count ≡ last_serial v.machine
-    all =
-        checked.records ∙ sym (counted_all volumes v.machine (last_serial v.machine) checked.reach refl)
+closed l v m count seats volumes kept own counted checked = grind (arith, counted_all)

@@ -1,6 +1,6 @@
 -- All marks after one more record, and the outcome of all seats.
-use Rattle.std.proofs.Common.{◌≡◌, ℕ, zero, suc, ◌+◌, ◌<◌, ◌≤◌, Bool, true, false, List, [], ◌∷◌, ◌++◌, length, map, take, Option, Some, None, slice_get, refl, ap, sym, subst, ◌∙◌, arith, inl, inr, set}
-use Rattle.std.specs.Prelude.{◌⊎◌, ◌≢◌, ◌==◌, filter}
+use Rattle.std.proofs.Common.{◌≡◌, ℕ, zero, suc, ◌+◌, ◌<◌, ◌≤◌, List, [], ◌∷◌, ◌++◌, length, take, Option, Some, None, slice_get, refl, ap, sym, subst, ◌∙◌, arith, inl, inr, set}
+use Rattle.std.specs.Prelude.{◌⊎◌, ◌≢◌}
 use Rattle.std.proofs.lemmas.Bool.{cases_eq, cases_lt, eqb-true}
 use Rattle.std.proofs.Math.ListN.{replicate}
 use Rattle.std.proofs.lemmas.List.{get_or-replicate, length-replicate, append_assoc, append-nil, length-map, map-append}
@@ -41,26 +41,12 @@ set_there (z ∷ xs) _ _ x y other get = get
 
 -- a processor has at most as many records as there are
 pub few_receipts : (cpu : ℕ) (h : List Record) → length (receipts_of cpu h) ≤ length h
-few_receipts cpu h =
-    omega (
-      arith,
-      length-map (filter (λ (r : Record). r.cpu == cpu) h) receipt_of,
-      length-filter (λ (r : Record). r.cpu == cpu) h,
-      count_by-le-length (λ (r : Record). r.cpu == cpu) h,
-    )
+few_receipts cpu h = grind (arith, length-map, length-filter, count_by-le-length)
 
 -- a record of another processor
 receipts_same : (cpu : ℕ) (h : List Record) (x : Record) → cpu ≢ x.cpu
     → receipts_of cpu (h ++ x ∷ []) ≡ receipts_of cpu h
-receipts_same cpu h x other =
-    rw (filter-append (λ (r : Record). r.cpu == cpu) h (x ∷ [])) (rw (map-append receipt_of (filter (λ (r :
-    Record). r.cpu == cpu) h) (filter (λ (r : Record). r.cpu == cpu) (x ∷ []))) (by_test (x.cpu == cpu) refl))
-  where
-    by_test : (b : Bool) → (x.cpu == cpu) ≡ b
-        → receipts_of cpu h ++ map receipt_of (filter (λ (r : Record). r.cpu == cpu) (x ∷ []))
-        ≡ receipts_of cpu h
-    by_test true is = absurd (other (sym (eqb-true x.cpu cpu is)))
-    by_test false is = rw is (append-nil (receipts_of cpu h))
+receipts_same cpu h x other = grind (arith, filter-append, map-append, eqb-true, append-nil)
 
 -- ---- one more record
 
@@ -69,17 +55,12 @@ pub counts_records : (history : List Record) (seats : List SeatValue) (marks : L
     (cpu place limit : ℕ) (m : Compared)
     → AreMarks history seats marks → IsSeatAt seats cpu place → slice_get marks place ≡ Some m
     → length history < limit → m.next < limit
-counts_records history seats marks cpu place limit m are at here room =
-    let found = are place at.0 at.1 in
-    let same : found.0 ≡ m = same_item (slice_get marks place) found.0 m found.1 here in
-    let next : m.next ≡ length (receipts_of at.0.cpu history) = rw (← same) found.2.next in
-    omega (arith, next, few_receipts at.0.cpu history, room)
+counts_records history seats marks cpu place limit m are at here room = grind (arith, same_item, few_receipts)
 
 -- a mark stands at the place of each seat
 pub has_mark : (history : List Record) (seats : List SeatValue) (marks : List Compared) (cpu place : ℕ)
     → AreMarks history seats marks → IsSeatAt seats cpu place → place < length marks
-has_mark history seats marks cpu place are at =
-    let found = are place at.0 at.1 in slice_get_within marks place found.0 found.1
+has_mark history seats marks cpu place are at = grind (arith, slice_get_within)
 
 -- a record of a seat
 pub marked : (seats : List SeatValue) (marks : List Compared) (latest : Record) (place : ℕ) (seat : SeatValue)
@@ -100,24 +81,18 @@ marked seats marks latest place seat was new receipts apart at marked_was seat_t
     step_here : IsMark seat.receipts (receipts_of seat.cpu history) was
         → IsMark seat.receipts (receipts_of seat.cpu (history ++ latest ∷ [])) new
     step_here mark =
-        subst (λ (done : List Receipt). IsMark seat.receipts done new)
-        (sym (receipts_more seat.cpu history latest (sym own)))
-        (rw (← shown) (stepped (receipts_of seat.cpu history)
+        rw (receipts_more seat.cpu history latest (sym own)) (rw (← shown) (stepped (receipts_of seat.cpu history)
         (subst (λ (rs : List Receipt). IsMark rs (receipts_of seat.cpu history) was) (sym shown) mark)))
 
     mark_here : IsMark seat.receipts (receipts_of seat.cpu history) was
-    mark_here =
-        let found = are place seat seat_there in
-        subst (IsMark seat.receipts (receipts_of seat.cpu history))
-        (same_item (slice_get marks place) found.0 was found.1 marked_was) found.2
+    mark_here = grind (arith, same_item)
 
     by_place : (p ≡ place) ⊎ (p ≢ place)
         → (m : Compared) × (slice_get (set marks place new) p ≡ Some m)
         × IsMark s.receipts (receipts_of s.cpu (history ++ latest ∷ [])) m
     by_place (inl is) =
         let same : seat ≡ s =
-        same_item (slice_get seats place) seat s seat_there
-        (ap (λ (k : ℕ). slice_get seats k) (sym is) ∙ there) in (
+        same_item _ _ _ seat_there (ap (λ (k : ℕ). slice_get seats k) (sym is) ∙ there) in (
           new,
           rw is (set_here marks place new (slice_get_within marks place was marked_was)),
           rw (← same) (step_here mark_here),
@@ -156,16 +131,6 @@ pub marks_next : (history records : List Record) (seats : List SeatValue) (marks
 marks_next history records seats marks at r get are =
     rw (take_one records at r get, ← append_assoc history (take at records) (r ∷ [])) are
 
-pub short_take : {X : Type 0} (n : ℕ) (xs : List X) → length (take n xs) ≤ n
-short_take (suc n) (x ∷ xs) = let rest = short_take n xs in omega arith
-short_take _ _ = omega arith
-
-pub take_all : {X : Type 0} (n : ℕ) (xs : List X) → length xs ≤ n → take n xs ≡ xs
-take_all zero [] long = refl
-take_all (suc n) [] long = refl
-take_all zero (x ∷ xs) long = absurd (omega arith)
-take_all (suc n) (x ∷ xs) long = ap (λ ys. x ∷ ys) (take_all n xs (omega arith))
-
 -- before any record
 pub fresh_marks : (seats : List SeatValue) (n : ℕ) (m : Compared) → length seats ≤ n
     → m ≡ record { next = 0; lowest = None } → AreMarks [] seats (replicate n m)
@@ -182,8 +147,7 @@ fresh_marks seats n m long is place seat there =
 
 seated_never_stray : (history : List Record) (seats : List SeatValue) → AreSeated history seats → (n : ℕ)
     → StraysAt history seats n → ⊥
-seated_never_stray history seats seated n s =
-    let seat = seated s.0 s.1 s.2 in s.3.1 seat.0 seat.1.0 seat.1.1 seat.1.2
+seated_never_stray history seats seated n s = grind arith
 
 -- one more record
 pub strays_next : (history : List Record) (seats : List SeatValue) (at : ℕ) (r : Record)
@@ -257,26 +221,17 @@ IsComparedBefore history seats end =
     (λ serial. StraysAt history seats serial ⊎ SeatDiffersBefore history seats end serial)
 
 same_never_differ : (xs ys : List Receipt) → xs ≡ ys → (n : ℕ) → DifferAt xs ys n → ⊥
-same_never_differ xs ys same n (inl own) =
-    own.4 (ap (λ (zs : List Receipt). slice_get zs own.0) (sym same) ∙ own.2)
-same_never_differ xs ys same n (inr own) = own.4 (ap (λ (zs : List Receipt). slice_get zs own.0) same ∙ own.2)
+same_never_differ xs ys same n h = grind arith
 
 compared_never : (history : List Record) (seats : List SeatValue) (end : ℕ)
     → AreSeated history seats × AreSettledBefore history seats end → (n : ℕ)
     → StraysAt history seats n ⊎ SeatDiffersBefore history seats end n → ⊥
-compared_never history seats end good n (inl s) = seated_never_stray history seats good.0 n s
-compared_never history seats end good n (inr d) =
-    same_never_differ d.1.receipts (receipts_of d.1.cpu history) (good.1 d.0 d.1 d.2 d.3) n d.4
+compared_never history seats end good n h = grind (arith, seated_never_stray, same_never_differ)
 
 -- before any seat
 pub compared_none : (history : List Record) (seats : List SeatValue) (o : Option ℕ)
     → IsOutcome (AreSeated history seats) (StraysAt history seats) o → IsComparedBefore history seats 0 o
-compared_none history seats o found =
-    mapped (AreSeated history seats) (AreSeated history seats × AreSettledBefore history seats 0)
-    (StraysAt history seats) (λ n. StraysAt history seats n ⊎ SeatDiffersBefore history seats 0 n) o found
-    (λ seated. (seated, λ place seat less. absurd (omega (arith, less))))
-    (λ n s. inl s)
-    (λ n s. elim s [ inl x ↦ x | inr d ↦ absurd (omega (arith, d.2)) ])
+compared_none history seats o found = grind (arith, mapped)
 
 -- after one more
 pub compared_next : (history : List Record) (seats : List SeatValue) (end : ℕ) (seat : SeatValue)
@@ -301,24 +256,19 @@ compared_next history seats end seat o here low get is found before =
   where
     the_seat : (place : ℕ) (s : SeatValue) → slice_get seats place ≡ Some s → end ≤ place → place < end + 1
         → seat ≡ s
-    the_seat place s there past less =
-        let last : place ≡ end = omega (arith, past, less) in
-        same_item (slice_get seats end) seat s get (ap (λ (k : ℕ). slice_get seats k) (sym last) ∙ there)
+    the_seat place s there past less = grind (arith, same_item)
 
     settled_at : AreSettledBefore history seats end → seat.receipts ≡ receipts_of seat.cpu history
         → (place : ℕ) (s : SeatValue) → slice_get seats place ≡ Some s → (place < end) ⊎ (end ≤ place)
         → place < end + 1 → s.receipts ≡ receipts_of s.cpu history
     settled_at settled same place s there (inl before) less = settled place s before there
-    settled_at settled same place s there (inr past) less =
-        subst (λ (x : SeatValue). x.receipts ≡ receipts_of x.cpu history) (the_seat place s there past less)
-        same
+    settled_at settled same place s there (inr past) less = grind arith
 
     differs_at : (n : ℕ) (d : SeatDiffersBefore history seats (end + 1) n) → (d.0 < end) ⊎ (end ≤ d.0)
         → (StraysAt history seats n ⊎ SeatDiffersBefore history seats end n)
         ⊎ DifferAt seat.receipts (receipts_of seat.cpu history) n
     differs_at n d (inl before) = inl (inr (d.0, d.1, before, d.3, d.4))
-    differs_at n d (inr past) =
-        inr (rw (the_seat d.0 d.1 d.3 past d.2) d.4)
+    differs_at n d (inr past) = grind arith
 
 -- after all
 pub compared_all : (history : List Record) (seats : List SeatValue) (end : ℕ) (o : Option ℕ)
@@ -327,8 +277,7 @@ compared_all history seats end o long found =
     mapped (AreSeated history seats × AreSettledBefore history seats end) (IsSettled history seats) (λ n.
     StraysAt history seats n ⊎ SeatDiffersBefore history seats end n) (MismatchesAt history seats) o found
     (λ good. record {
-      receipts = λ place seat there. good.1 place seat
-          (let inside = slice_get_within seats place seat there in omega arith) there;
+      receipts = grind (arith, slice_get_within);
       records = good.0;
     })
     (λ n s. elim s [ inl x ↦ inl x | inr d ↦ inr (d.0, d.1, d.3, d.4) ])

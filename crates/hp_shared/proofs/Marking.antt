@@ -1,5 +1,5 @@
 -- A mark after one more record, and after all.
-use Rattle.std.proofs.Common.{◌≡◌, ℕ, suc, ◌+◌, ◌<◌, ◌≤◌, List, [], ◌∷◌, ◌++◌, length, Option, Some, None, slice_get, refl, ap, sym, subst, ◌∙◌, arith, inl, inr}
+use Rattle.std.proofs.Common.{◌≡◌, ℕ, suc, ◌+◌, ◌<◌, ◌≤◌, List, [], ◌∷◌, ◌++◌, length, Option, Some, None, slice_get, refl, sym, subst, ◌∙◌, arith, inl, inr}
 use Rattle.std.specs.Prelude.{◌⊎◌}
 use Rattle.std.proofs.lemmas.Bool.{cases_lt}
 use Rattle.std.proofs.lemmas.List.{length-append}
@@ -19,28 +19,18 @@ agreed receipts done agree n d = d.3.0 (agree d.0 d.1 d.2)
 -- the same entry at the next place
 agrees_on : (receipts done : List Receipt) (b : Receipt) → Agrees receipts done
     → slice_get receipts (length done) ≡ Some b → Agrees receipts (done ++ b ∷ [])
-agrees_on receipts done b agree is at x h =
-    elim (get_push_cases done b x at h) [
-      | inl e ↦ agree at x e
-      | inr e ↦ ap (λ (k : ℕ). slice_get receipts k) e.0 ∙ (is ∙ ap (λ (y : Receipt). Some y) e.1)
-    ]
+agrees_on receipts done b agree is at x h = grind (arith, get_push_cases)
 
 -- what differed before differs still
 differs_on : (receipts done : List Receipt) (b : Receipt) (n : ℕ) → DiffersBefore receipts done n
     → DiffersBefore receipts (done ++ b ∷ []) n
-differs_on receipts done b n d =
-    (d.0, d.1, get_left done (b ∷ []) d.0 (slice_get_within done d.0 d.1 d.2) ∙ d.2, d.3)
+differs_on receipts done b n d = grind (arith, get_left, slice_get_within)
 
 -- and what differs at last differed before, or here
 differs_back : (receipts done : List Receipt) (b : Receipt) (n : ℕ)
     → DiffersBefore receipts (done ++ b ∷ []) n
     → DiffersBefore receipts done n ⊎ EntryDiffersAt (slice_get receipts (length done)) b n
-differs_back receipts done b n d =
-    elim (get_push_cases done b d.1 d.0 d.2) [
-      | inl e ↦ inl (d.0, d.1, e, d.3)
-      | inr e ↦
-          inr (rw (← e.0, e.1) d.3)
-    ]
+differs_back receipts done b n d = grind (arith, get_push_cases)
 
 pub mark_stepped : (receipts done : List Receipt) (b : Receipt) (m : Compared) (here low : Option ℕ)
     → IsOutcome (slice_get receipts m.next ≡ Some b) (EntryDiffersAt (slice_get receipts m.next) b) here
@@ -74,23 +64,14 @@ IsEndedBefore receipts done end =
 -- before any of them
 pub ends_before_none : (receipts done : List Receipt) (m : Compared) → IsMark receipts done m
     → IsEndedBefore receipts done m.next m.lowest
-ends_before_none receipts done m mark =
-    mapped (Agrees receipts done) (Agrees receipts done × (m.next ≤ length done)) (DiffersBefore receipts
-    done) (λ n. DiffersBefore receipts done n ⊎ StandsAfter receipts done m.next n) m.lowest mark.lowest
-    (λ agree. (agree, omega (arith, mark.next)))
-    (λ n d. inl d)
-    (λ n d. elim d [ inl x ↦ x | inr s ↦ absurd (omega (arith, mark.next, s.2, s.3)) ])
-
-abbrev serial_or : Option Receipt → ℕ → ℕ
-serial_or None n = n
-serial_or (Some r) n = r.serial
+ends_before_none receipts done m mark = grind (arith, mapped)
 
 -- after one more
 pub ends_before_next : (receipts done : List Receipt) (end : ℕ) (a : Receipt) (o low : Option ℕ)
     → length done ≤ end → slice_get receipts end ≡ Some a → low ≡ lower o (Some a.serial)
     → IsEndedBefore receipts done end o → IsEndedBefore receipts done (end + 1) low
 ends_before_next receipts done end a o low past here is ended =
-    subst (IsEndedBefore receipts done (end + 1)) (sym is)
+    rw is
     (joined (Agrees receipts done × (end ≤ length done)) ⊥ (Agrees receipts done × (end + 1 ≤ length done))
     (λ n. DiffersBefore receipts done n ⊎ StandsAfter receipts done end n) (λ n. a.serial ≡ n)
     (λ n. DiffersBefore receipts done n ⊎ StandsAfter receipts done (end + 1) n) o (Some a.serial) ended
@@ -106,10 +87,7 @@ ends_before_next receipts done end a o low past here is ended =
     by_place : (n : ℕ) (s : StandsAfter receipts done (end + 1) n) → (s.0 < end) ⊎ (end ≤ s.0)
         → (DiffersBefore receipts done n ⊎ StandsAfter receipts done end n) ⊎ (a.serial ≡ n)
     by_place n s (inl less) = inl (inr (s.0, s.1, s.2, less, s.4, s.5))
-    by_place n s (inr past) =
-        let last : s.0 ≡ end = omega (arith, s.3) in
-        let same : Some a ≡ Some s.1 = sym here ∙ (ap (λ (k : ℕ). slice_get receipts k) (sym last) ∙ s.4) in
-        inr (ap (λ (o : Option Receipt). serial_or o n) same ∙ s.5)
+    by_place n s (inr past) = grind arith
 
 -- lists that agree at each place of the second, which is as long, are the same
 same_places : (xs ys : List Receipt) → Agrees xs ys → length xs ≤ length ys → xs ≡ ys
@@ -123,13 +101,7 @@ same_places (x ∷ xs) (y ∷ ys) agree long =
 -- what differs before the end of the receipts is all that differs
 differ_all : (receipts done : List Receipt) (end n : ℕ)
     → DiffersBefore receipts done n ⊎ StandsAfter receipts done end n → DifferAt receipts done n
-differ_all receipts done end n (inl d) =
-    elim d.3.1 [
-      | inl is ↦ inr (d.0, d.1, d.2, is, d.3.0)
-      | inr own ↦ inl (d.0, own.0, own.1, own.2, λ e. d.3.0 (own.1 ∙ (sym e ∙ d.2)))
-    ]
-differ_all receipts done end n (inr s) =
-    inl (s.0, s.1, s.4, s.5, λ e. let inside = slice_get_within done s.0 s.1 e in absurd (omega (arith, s.2)))
+differ_all receipts done end n h = grind (arith, slice_get_within)
 
 differ_back : (receipts done : List Receipt) (end n : ℕ) → length receipts ≤ end → DifferAt receipts done n
     → DiffersBefore receipts done n ⊎ StandsAfter receipts done end n
@@ -154,8 +126,7 @@ differ_back receipts done end n long (inl own) = by_entry (slice_get done own.0)
           own.2,
           own.3,
         )
-    by_entry (Some b) some =
-        inl (own.0, b, some, ((λ e. own.4 (some ∙ (sym e ∙ own.2))), inr (own.1, own.2, own.3)))
+    by_entry (Some b) some = grind arith
 differ_back receipts done end n long (inr other) = inl (other.0, other.1, other.2, (other.4, inl other.3))
 
 -- so after the last receipt the search is over

@@ -1,6 +1,5 @@
 -- The records of volumes, volume by volume.
-use Rattle.std.proofs.Common.{◌≡◌, ℕ, ◌+◌, ◌<◌, ◌≤◌, List, [], ◌∷◌, ◌++◌, length, take, Option, Some, slice_get, refl, ap, sym, ◌∙◌, arith, inl, inr}
-use Rattle.std.specs.Prelude.{◌⊎◌}
+use Rattle.std.proofs.Common.{◌≡◌, ℕ, ◌+◌, ◌<◌, List, [], ◌∷◌, ◌++◌, length, take, Option, Some, slice_get, refl, ap, ◌∙◌, arith}
 use Rattle.std.proofs.lemmas.Bool.{cases_lt}
 use Rattle.std.proofs.lemmas.List.{append_assoc, append-nil, length-append}
 use Rattle.std.proofs.lemmas.List.Sums.{sum_by-cons, sum_by-take-le}
@@ -52,23 +51,13 @@ count_next vs at count more v get is own =
 -- all records are as many as the last serial
 pub counted_all : (vs : List Volume) (m : MachineValue) (n : ℕ) → ReachSealed vs m.before → n ≡ last_serial m
     → n ≡ length (all_records vs m)
-counted_all vs m n reach is =
-    omega (arith, is, length-append (sealed_records vs) m.history, length_sealed vs, reach.sealed_all)
+counted_all vs m n reach is = grind (arith, length-append, length_sealed)
 
 -- where a seal handed out a volume, as many more records are sealed as it has
 pub handed_on : (old new : MachineValue) (v : Volume) (was : ℕ) (records : List Record) (len now : ℕ)
     → was ≡ old.before → v ≡ volume_of old → new ≡ sealed old → records ≡ v.records → len ≡ length records
     → now ≡ was + len → now ≡ new.before
-handed_on old new v was records len now counted is goes_on own count more =
-    omega (
-      arith,
-      counted,
-      count,
-      more,
-      ap (λ (rs : List Record). length rs) own,
-      ap (λ (x : Volume). length x.records) is,
-      ap (λ (m : MachineValue). m.before) goes_on,
-    )
+handed_on old new v was records len now counted is goes_on own count more = cc
 
 -- ---- marks
 
@@ -113,12 +102,4 @@ strays_on vs at v records seats o q low get own is before here =
 
 pub counted_next : (vs : List Volume) (at : ℕ) (v : Volume) → slice_get vs at ≡ Some v
     → v.before ≡ records_in (take at vs) → AreCountedBefore vs at → AreCountedBefore vs (at + 1)
-counted_next vs at v get right counted k u less there = by_place (cases_lt k at)
-  where
-    by_place : (k < at) ⊎ (at ≤ k) → u.before ≡ records_in (take k vs)
-    by_place (inl before) = counted k u before there
-    by_place (inr past) =
-        let last : k ≡ at = omega (arith, less, past) in
-        let same : v ≡ u =
-        same_item (slice_get vs at) v u get (ap (λ (n : ℕ). slice_get vs n) (sym last) ∙ there) in
-        ap (λ (x : Volume). x.before) (sym same) ∙ (right ∙ ap (λ (n : ℕ). records_in (take n vs)) (sym last))
+counted_next vs at v get right counted k u less there = grind (arith, cases_lt, same_item)

@@ -1,12 +1,12 @@
 -- A seat's call is a port's.
 use Rattle.std.specs.Prelude.{◌≤◌}
-use Rattle.std.proofs.Common.{◌≡◌, ℕ, ◌+◌, ◌<◌, List, [], ◌∷◌, ◌++◌, length, Option, None, Result, Err, refl, ap, sym, subst, ◌∙◌, arith, inl, inr}
+use Rattle.std.proofs.Common.{◌≡◌, ℕ, ◌+◌, ◌<◌, List, [], ◌∷◌, ◌++◌, length, Option, None, Result, Err, refl, ap, arith}
 use Rattle.std.proofs.lemmas.List.{length-append}
 use Rattle.hp_units.specs.LayoutParts.{LayoutParts}
 use Rattle.hp_units.specs.History.{reply_of}
 use Rattle.hp_units.specs.declared.events.Event.{Event}
 use Rattle.hp_units.specs.declared.replies.CallFault.{CallFault}
-use Rattle.hp_units.specs.declared.replies.CallFault.TheVariants.{HistoryFull, OutOfMemory}
+use Rattle.hp_units.specs.declared.replies.CallFault.TheVariants.{HistoryFull}
 use Rattle.hp_units.specs.declared.replies.Receipt.{Receipt}
 use Rattle.hp_units.specs.declared.replies.Reply.{Reply}
 use Rattle.hp_history.specs.Course.{receipt_for}
@@ -25,24 +25,20 @@ seated_is_given l old new event r fault seated =
     let turn = seated.turn in
     let m = turn.seen.machine in
     let found = last_reply m old.cpu r turn.shared.history turn.last in
-    let reply : r.reply ≡ reply_of m.layout m.base m.before found.0 old.cpu event =
-    found.1 ∙ ap (λ (e : Event). reply_of m.layout m.base m.before found.0 old.cpu e) turn.asked in
+    let reply : r.reply ≡ reply_of m.layout m.base m.before found.0 old.cpu event = cc in
     let cpus : m.layout.cpus ≡ l.cpus = ap (λ (parts : LayoutParts). parts.cpus) turn.shared.layout in
     record {
       asked = turn.asked;
       value = rw seated.receipts;
       begun =
           λ plan is. rw (reply, is) (begin_known m.layout m.base m.before found.0 old.cpu plan);
-      known = λ opened.
-          rw (← cpus, reply) (driver_known m.layout m.base m.before found.0 old.cpu event
-          (subst (λ (n : ℕ). old.cpu < n) (sym cpus) seated.inside));
+      known = grind (arith, driver_known);
     }
 
 -- one turn, of which the port shows the receipt
 pub turned_once : (l : LayoutParts) (old new : SeatValue) (event : Event) (r : Receipt)
     → IsSeated l old event r new → AreTurns l old (r ∷ []) new
-turned_once l old new event r seated =
-    (new, subst (λ (e : Event). IsSeated l old e r new) (sym seated.turn.asked) seated, refl)
+turned_once l old new event r seated = grind arith
 
 -- a turn's receipt, which has a copy of the event, is appended
 pub seat_called : (l : LayoutParts) (cpu : ℕ) (was held now : List Receipt) (event copy : Event)
@@ -89,19 +85,13 @@ full_at fault = fulls_of (faulted (ℕ × Reply) fault)
 pub left_so : (cpu : ℕ) (was now : List Receipt) (sealed kept fulls told : ℕ) (fault : CallFault)
     → now ≡ was → kept ≡ sealed → told ≡ fulls + full_at fault
     → seat_of cpu now kept told ≡ left_by (seat_of cpu was sealed fulls) fault
-left_so cpu was now sealed kept fulls told HistoryFull same still counted =
-    let more : told ≡ fulls + 1 = counted in cc
-left_so cpu was now sealed kept fulls told OutOfMemory same still counted =
-    let none : told ≡ fulls = omega (arith, counted) in cc
+left_so cpu was now sealed kept fulls told fault same still counted = grind arith
 
 -- what fills a history, of receipts that are fewer than 2^63
 pub fills : (l : LayoutParts) (sealed share held len room : ℕ) → IsFilled l sealed share → share ≡ held
     → len ≡ held → len ≤ room → room < 9223372036854775808 → l.history + sealed ≤ held
-fills l sealed share held len room (inl most) counted is within small = omega (arith, most, counted)
-fills l sealed share held len room (inr last) counted is within small =
-    absurd (omega (arith, last, counted, is, within, small))
+fills l sealed share held len room h counted is within small = grind arith
 
 pub full_still : {A B : Type 0} (fault : CallFault) → faulted A fault ≡ faulted A HistoryFull
     → faulted B fault ≡ faulted B HistoryFull
-full_still HistoryFull is = refl
-full_still OutOfMemory is = absurd cc
+full_still fault is = grind arith

@@ -1,6 +1,6 @@
 -- A recorded call keeps what every lock shows, and so does a seal.
-use Rattle.std.specs.Prelude.{IfOk, IsTrue, is_ok, nat_le, ◌||◌, ◌<◌, ◌≤◌, ◌↔◌}
-use Rattle.std.proofs.Common.{◌≡◌, Bool, true, false, Result, Ok, Err, ℕ, ◌+◌, List, [], ◌∷◌, ◌++◌, length, Some, slice_get, take, refl, ap, sym, subst, ◌∙◌, arith, inl, inr}
+use Rattle.std.specs.Prelude.{IfOk, IsTrue, is_ok, ◌<◌, ◌≤◌, ◌↔◌}
+use Rattle.std.proofs.Common.{◌≡◌, true, Result, Ok, Err, ℕ, ◌+◌, List, [], ◌∷◌, ◌++◌, length, Some, slice_get, take, refl, ap, sym, subst, ◌∙◌, arith}
 use Rattle.std.proofs.lemmas.Bool.{le-leb, leb-true}
 use Rattle.std.proofs.lemmas.List.{length-append}
 use Rattle.std.proofs.Math.Bool.{or-true}
@@ -15,7 +15,7 @@ use Rattle.hp_units.specs.declared.replies.Receipt.{Receipt}
 use Rattle.hp_units.specs.declared.replies.Record.{Record}
 use Rattle.hp_units.specs.declared.replies.Reply.{Reply}
 use Rattle.hp_laws.proofs.Lists.{get_end}
-use Rattle.hp_history.specs.Course.{is_spent, receipt_for}
+use Rattle.hp_history.specs.Course.{receipt_for}
 use Rattle.hp_history.specs.Kept.{pictured}
 use Rattle.hp_history.specs.Volumes.{FollowsVolumes, records_in, state_after, volume_of}
 use Rattle.hp_history.proofs.Chains.{chain_more, count_more, state_more}
@@ -34,25 +34,14 @@ called_history old new cpu event r called = record {
 -- its last serial is one higher
 called_serial : (old new : MachineValue) (cpu : ℕ) (event : Event) (r : Receipt)
     → IsCalled old cpu event r new → last_serial new ≡ last_serial old + 1
-called_serial old new cpu event r called =
-    omega (
-      arith,
-      called.before,
-      ap (λ (h : List Record). length h) called.history,
-      length-append old.history (record_of cpu r ∷ []),
-    )
+called_serial old new cpu event r called = grind (arith, length-append)
 
 -- so it may lie under the lock, with a total that is one higher
 pub turned : (l : LayoutParts) (old new : MachineValue) (was total : ℕ) (cpu : ℕ) (event : Event)
     (r : Receipt)
     → IsShared l (record { machine = old; total = was }) → IsCalled old cpu event r new → total ≡ was + 1
     → IsShared l (record { machine = new; total = total })
-turned l old new was total cpu event r shared called more = record {
-  layout = called.layout ∙ shared.layout;
-  sealed = (shared.sealed.0, shared.sealed.1, called.before ∙ shared.sealed.2, called.base ∙ shared.sealed.3);
-  history = called_history old new cpu event r called;
-  total = more ∙ (ap (λ (n : ℕ). n + 1) shared.total ∙ sym (called_serial old new cpu event r called));
-}
+turned l old new was total cpu event r shared called more = grind (arith, called_history, called_serial)
 
 -- and where a call that may be answered by a fault is known to have been recorded
 pub turned_ok : (l : LayoutParts) (old new : MachineValue) (was total : ℕ) (cpu : ℕ) (event : Event)
@@ -70,27 +59,16 @@ pub still_sealed : (old new : MachineValue) (cpu : ℕ) (event : Event) (result 
     (count : ℕ)
     → IfOk result (λ answer. IsCalled old cpu event (receipt_for event answer) new)
     → is_ok result ≡ true → count ≡ old.before → count ≡ new.before
-still_sealed old new cpu event (Ok answer) count called recorded is = is ∙ sym called.before
-still_sealed old new cpu event (Err fault) count called recorded is = absurd cc
+still_sealed old new cpu event result count called recorded is = grind arith
 
 -- a machine with a full history has made as many records since its last seal as the history may
 -- hold, or there is no further serial
 full_count : (m : MachineValue) → is_full m ≡ true → IsFilled m.layout m.before (last_serial m)
-full_count m full = by_room (nat_le m.layout.history (length m.history)) (is_spent m) refl refl full
-  where
-    by_room : (held spent : Bool) → nat_le m.layout.history (length m.history) ≡ held → is_spent m ≡ spent
-        → (held || spent) ≡ true → IsFilled m.layout m.before (last_serial m)
-    by_room true spent is so both =
-        let within = leb-true m.layout.history (length m.history) is in inl (omega (arith, within))
-    by_room false true is so both =
-        inr (omega (arith, leb-true 18446744073709551615 (m.before + length m.history) so))
-    by_room false false is so both = absurd cc
+full_count m full = grind (arith, leb-true)
 
 -- and one with no further serial is full
 spent_is_full : (m : MachineValue) → 18446744073709551615 ≤ last_serial m → is_full m ≡ true
-spent_is_full m last =
-    rw (le-leb 18446744073709551615 (m.before + length m.history) last)
-    (or-true (nat_le m.layout.history (length m.history)))
+spent_is_full m last = grind (arith, le-leb, or-true)
 
 -- and so it is for a share that counts all of them, and one that counts no more than are sealed
 pub filled : {A : Type 0} (l : LayoutParts) (m : MachineValue) (total amount parts all handed : ℕ)
@@ -98,22 +76,7 @@ pub filled : {A : Type 0} (l : LayoutParts) (m : MachineValue) (total amount par
     → IsShared l (record { machine = m; total = total }) → handed ≤ m.before
     → ((answer ≡ Err HistoryFull) ↔ IsTrue (is_full m)) → (parts ≡ all → amount ≡ total) → parts ≡ all
     → answer ≡ Err HistoryFull → IsFilled l handed amount
-filled l m total amount parts all handed answer shared few full counts whole is =
-    by_cause (full_count m (full.0 is))
-  where
-    by_cause : IsFilled m.layout m.before (last_serial m) → IsFilled l handed amount
-    by_cause (inl most) =
-        inl (
-        omega (
-          arith,
-          most,
-          few,
-          shared.total,
-          counts whole,
-          ap (λ (k : LayoutParts). k.history) shared.layout,
-        )
-        )
-    by_cause (inr last) = inr (omega (arith, last, shared.total, counts whole))
+filled l m total amount parts all handed answer shared few full counts whole is = grind (arith, full_count)
 
 -- a call that found the history full found as many records, and later there are no fewer
 pub reached_on : {A : Type 0} (l : LayoutParts) (m : MachineValue) (was total fulls told : ℕ)
@@ -122,21 +85,7 @@ pub reached_on : {A : Type 0} (l : LayoutParts) (m : MachineValue) (was total fu
     → ((answer ≡ Err HistoryFull) ↔ IsTrue (is_full m)) → (0 < fulls → IsReached l was)
     → told ≡ fulls + fulls_of answer → 0 < told → IsReached l total
 reached_on {A} l m was total fulls told answer shared more full before counted some =
-    by_answer answer full counted
-  where
-    later : IsReached l was → IsReached l total
-    later (inl most) = inl (omega (arith, most, more))
-    later (inr last) = inr (omega (arith, last, more))
-
-    here : IsFilled m.layout m.before (last_serial m) → IsReached l total
-    here (inl most) =
-        inl (omega (arith, most, more, shared.total, ap (λ (k : LayoutParts). k.history) shared.layout))
-    here (inr last) = inr (omega (arith, last, more, shared.total))
-
-    by_answer : (a : Result A CallFault) → ((a ≡ Err HistoryFull) ↔ IsTrue (is_full m))
-        → told ≡ fulls + fulls_of a → IsReached l total
-    by_answer (Err HistoryFull) full counted = here (full_count m (full.0 refl))
-    by_answer _ full counted = later (before (omega (arith, counted, some)))
+    grind (arith, full_count)
 
 -- a call that is recorded after one that found the history full has a serial above the limit
 pub late_on : (l : LayoutParts) (old new : MachineValue) (was fulls told cpu : ℕ) (event : Event)
@@ -146,28 +95,14 @@ pub late_on : (l : LayoutParts) (old new : MachineValue) (was fulls told cpu : �
     → ((result ≡ Err HistoryFull) ↔ IsTrue (is_full old))
     → (0 < fulls → IsReached l was) → told ≤ fulls
     → IfOk result (λ answer. 0 < told → l.history < answer.0)
-late_on l old new was fulls told cpu event (Err fault) shared called full reached few = tt
-late_on l old new was fulls told cpu event (Ok answer) shared called full reached few =
-    λ some. by_cause (reached (omega (arith, some, few)))
-  where
-    not_full : Ok answer ≡ Err HistoryFull → ⊥
-    not_full is = absurd cc
-
-    by_cause : IsReached l was → l.history < answer.0
-    by_cause (inl most) = omega (arith, most, shared.total, called.serial)
-    by_cause (inr last) =
-        absurd (not_full (full.1 (spent_is_full old (omega (arith, last, shared.total)))))
+late_on l old new was fulls told cpu event result shared called full reached few =
+    grind (arith, spent_is_full)
 
 -- a machine with no records that sealed nothing may lie under the lock
 pub begun : (l : LayoutParts) (m : MachineValue) (total : ℕ) → IsFresh l m
     → (m.before ≡ 0 → m.base ≡ boot_memory m.layout) → IsHistory m → total ≡ 0
     → IsShared l (record { machine = m; total = total })
-begun l m total fresh boots kept none = record {
-  layout = fresh.layout;
-  sealed = ([], λ at v none. absurd cc, fresh.before, boots fresh.before ∙ ap boot_memory fresh.layout);
-  history = kept;
-  total = omega (arith, none, fresh.before, ap (λ (h : List Record). length h) fresh.history);
-}
+begun l m total fresh boots kept none = grind arith
 
 -- no records lead to the base itself
 stands_at_base : (l : LayoutParts) (base : Memory) → base ≡ value_of l base []
@@ -197,8 +132,7 @@ sealed_on l old new was total shared is same =
 
     legal : IsLegal l (state_after l volumes) (records_in volumes) old.history
     legal =
-        subst (λ (s : Memory). IsLegal l s (records_in volumes) old.history) shared.sealed.3
-        (rw (← shared.sealed.2, ← shared.layout) shared.history.legal)
+        rw (← shared.sealed.3) (rw (← shared.sealed.2, ← shared.layout) shared.history.legal)
 
     follows : FollowsVolumes l volumes (volume_of old)
     follows = record {
@@ -213,11 +147,7 @@ sealed_on l old new was total shared is same =
     count = ap (λ (n : ℕ). n + length old.history) shared.sealed.2 ∙ sym (count_more volumes (volume_of old))
 
     base : old.state ≡ state_after l (volumes ++ volume_of old ∷ [])
-    base =
-        shared.history.state
-        ∙ (ap (λ (parts : LayoutParts). value_of parts old.base old.history) shared.layout
-        ∙ (ap (λ (s : Memory). value_of l s old.history) shared.sealed.3
-        ∙ sym (state_more l volumes (volume_of old))))
+    base = cc (shared.history.state, shared.layout, shared.sealed.3, state_more l volumes (volume_of old))
 
 -- the reply of a machine's last record is the one that the definitions give after some earlier records
 pub last_reply : (m : MachineValue) (cpu : ℕ) (r : Receipt) → IsHistory m → IsLastOf m cpu r

@@ -1,5 +1,5 @@
 -- What a contract sees of a seat and of what lies under the lock, by its parts.
-use Rattle.std.proofs.Common.{ℕ, List, Result, Ok, Err}
+use Rattle.std.proofs.Common.{ℕ, List, Result, arith}
 use Rattle.std.specs.Prelude.{OnErr}
 use Rattle.hp_units.specs.declared.replies.Receipt.{Receipt}
 use Rattle.hp_machine.specs.Machine.{MachineValue}
@@ -16,5 +16,4 @@ locked_of machine total = record { machine = machine; total = total }
 
 -- what holds in any case holds at a fault
 pub on_err : {T E : Type 0} (r : Result T E) (P : Type 0) → P → OnErr r P
-on_err (Ok x) P h = tt
-on_err (Err y) P h = h
+on_err r P h = grind arith

@@ -4,3 +4,6 @@ pub mod Marks
 pub mod SeatPorts
 pub mod Shared
 pub mod Volumes
+pub mod Lines
+pub mod Seals
+pub mod Workers

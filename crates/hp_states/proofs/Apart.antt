@@ -1,5 +1,5 @@
 -- Codes that tell what they are the codes of apart, whatever stands after them.
-use Rattle.std.proofs.Common.{ℕ, zero, suc, ◌≡◌, ◌+◌, ◌/◌, ◌^◌, ◌<◌, List, [], ◌∷◌, ◌++◌, None, Some, length, refl, sym, ◌∙◌, arith, inl, inr, append_assoc}
+use Rattle.std.proofs.Common.{ℕ, zero, suc, ◌≡◌, ◌+◌, ◌/◌, ◌^◌, ◌<◌, List, [], ◌∷◌, ◌++◌, None, Some, length, refl, sym, ◌∙◌, ap, arith, inl, inr, append_assoc}
 use Rattle.std.proofs.lemmas.Bool.{cases_Bool, cond-true, cond-false, ltb-true}
 use Rattle.std.specs.List.{AllByRecursion, flat_map}
 use Rattle.std.specs.Prelude.{nat_lt}
@@ -77,8 +77,7 @@ option-apart None (Some b) xs ys e = absurd (omega (arith, (number-apart 0 (b + 
 option-apart (Some a) None xs ys e = absurd (omega (arith, (number-apart (a + 1) 0 xs ys e).0))
 option-apart (Some a) (Some b) xs ys e =
     let h = number-apart (a + 1) (b + 1) xs ys e in
-    let same : a ≡ b = omega (arith, h.0) in
-    (cc, h.1)
+    (ap Some (omega (arith, h.0)), h.1)
 
 -- ---- many, one after another
 
@@ -87,7 +86,7 @@ pub many-apart : {A : Type 0} (code : A → List ℕ) → TellsApart code → (u
     → length us ≡ length vs → flat_map code us ++ xs ≡ flat_map code vs ++ ys → (us ≡ vs) × (xs ≡ ys)
 many-apart code tells [] [] xs ys size e = (refl, e)
 many-apart code tells (a ∷ us) (b ∷ vs) xs ys size e =
-    let first = tells a b (flat_map code us ++ xs) (flat_map code vs ++ ys) (simp append_assoc at e) in
+    let first = tells a b _ _ (simp append_assoc at e) in
     let rest = many-apart code tells us vs xs ys (omega arith) first.1 in
     (cc, rest.1)
 many-apart code tells _ _ xs ys size e = absurd (omega arith)
@@ -100,8 +99,7 @@ pub rows-apart : {A : Type 0} (code : A → List ℕ) → TellsApart code → (c
     → flat_map (flat_map code) us ++ xs ≡ flat_map (flat_map code) vs ++ ys → (us ≡ vs) × (xs ≡ ys)
 rows-apart code tells count [] [] xs ys size left right e = (refl, e)
 rows-apart code tells count (a ∷ us) (b ∷ vs) xs ys size left right e =
-    let first = many-apart code tells a b (flat_map (flat_map code) us ++ xs)
-    (flat_map (flat_map code) vs ++ ys) (left.0 ∙ sym right.0) (simp append_assoc at e) in
+    let first = many-apart code tells a b _ _ (left.0 ∙ sym right.0) (simp append_assoc at e) in
     let rest = rows-apart code tells count us vs xs ys (omega arith) left.1 right.1 first.1 in
     (cc, rest.1)
 rows-apart code tells count _ _ xs ys size left right e = absurd (omega arith)
@@ -111,8 +109,7 @@ numbers-apart : (m n : ℕ) (us vs : List ℕ) (xs ys : List ℕ) → (m ≡ n �
     → (number_code m ++ flat_map number_code us) ++ xs ≡ (number_code n ++ flat_map number_code vs) ++ ys
     → (us ≡ vs) × (xs ≡ ys)
 numbers-apart m n us vs xs ys size e =
-    let count = number-apart m n (flat_map number_code us ++ xs) (flat_map number_code vs ++ ys)
-    (simp append_assoc at e) in
+    let count = number-apart m n _ _ (simp append_assoc at e) in
     many-apart number_code number-apart us vs xs ys (size count.0) count.1
 
 pub counted-apart : TellsApart counted_code
@@ -121,11 +118,9 @@ counted-apart us vs xs ys e = numbers-apart (length us) (length vs) us vs xs ys 
 pub words-apart : TellsApart words_code
 words-apart None None xs ys e = (refl, (number-apart 0 0 xs ys e).1)
 words-apart None (Some vs) xs ys e =
-    let h = number-apart 0 (length vs + 1) xs (flat_map number_code vs ++ ys) (simp append_assoc at e) in
-    absurd (omega (arith, h.0))
+    absurd (omega (arith, (number-apart 0 (length vs + 1) xs _ (simp append_assoc at e)).0))
 words-apart (Some us) None xs ys e =
-    let h = number-apart (length us + 1) 0 (flat_map number_code us ++ xs) ys (simp append_assoc at e) in
-    absurd (omega (arith, h.0))
+    absurd (omega (arith, (number-apart (length us + 1) 0 _ ys (simp append_assoc at e)).0))
 words-apart (Some us) (Some vs) xs ys e =
     let h = numbers-apart (length us + 1) (length vs + 1) us vs xs ys (λ same. omega arith) e in
     (cc, h.1)

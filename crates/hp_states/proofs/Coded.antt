@@ -11,8 +11,7 @@ use Rattle.hp_states.proofs.Parts.{states-apart}
 -- a number means its state as codes come
 pub coded_is_kept : (l : LayoutParts) (old new : List (List ℕ)) (n : ℕ) (m : Memory) → KeepCodes old new
     → IsCoded l old n m → IsCoded l new n m
-coded_is_kept l old new n m keep is =
-    record { code = keep n (state_code l m) is.code; shaped = is.shaped }
+coded_is_kept l old new n m keep is = record { code = keep n _ is.code; shaped = is.shaped }
 
 -- a number means one state
 pub coded_states_are_same : (l : LayoutParts) (codes : List (List ℕ)) (n : ℕ) (a b : Memory)

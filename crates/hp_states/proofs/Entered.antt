@@ -1,5 +1,5 @@
 -- A place that the walk comes to: its frame, and what goes on from there.
-use Rattle.std.proofs.Common.{◌≡◌, ℕ, ◌≤◌, List, length, arith}
+use Rattle.std.proofs.Common.{◌≡◌, ℕ, ◌≤◌, List, length, refl, arith}
 use Rattle.std.proofs.lemmas.List.{append-nil, drop_all, length-map}
 use Rattle.hp_units.specs.declared.replies.Record.{Record}
 use Rattle.hp_schedules.specs.Notes.{TallyValue}
@@ -43,34 +43,32 @@ go_on_twice start later old mid new le first then = record {
 }
 
 -- what was counted is added up
-pub go_on_gathered : (start : ℕ) (old new : TallyValue) → new.ends ≡ old.ends → KeepsBefore start old new
+pub go_on_gathered : {start : ℕ} {old new : TallyValue} → new.ends ≡ old.ends → KeepsBefore start old new
     → GoOn start old new
-go_on_gathered start old new same told = grind (arith, grow_none)
+go_on_gathered same told = grind (arith, grow_none)
 
 -- ---- a place that the walk comes to
 
 -- it is walked
-fresh_frame : (g : Setting) (news : List Record) (part : PartValue) (tally : TallyValue) (frame : Level)
-    → ComesTo (length g.scripts) part (schedule_of news)
-    → IsPartWalkedBefore g part (schedule_of news) tally.ends → IsFresh tally frame
-    → IsFrame g part news tally frame
-fresh_frame g news part tally frame comes walked fresh = rw fresh (record {
-  comes = comes;
-  within = omega arith;
-  reached = record {
-    old = tally.ends;
-    counted = rw (drop_all (length tally.trail) tally.trail (omega arith)) (since_now tally.ends);
-    before = walked.counted;
-    grown = grow_none tally.ends;
-  };
-})
-
 pub entered_fresh : (g : Setting) (news : List Record) (part : PartValue) (tally : TallyValue)
     (frame : Level)
     → ComesTo (length g.scripts) part (schedule_of news)
     → IsPartWalkedBefore g part (schedule_of news) tally.ends → IsFresh tally frame
     → IsEntered g news part tally tally (Open frame)
-entered_fresh g news part tally frame comes walked fresh = grind (arith, fresh_frame)
+entered_fresh g news part tally frame comes walked fresh = (
+  refl,
+  fresh,
+  rw fresh (record {
+    comes = comes;
+    within = omega arith;
+    reached = record {
+      old = tally.ends;
+      counted = rw (drop_all (length tally.trail) tally.trail (omega arith)) (since_now tally.ends);
+      before = walked.counted;
+      grown = grow_none tally.ends;
+    };
+  }),
+)
 
 -- where all that go on from there belong to the part
 pub entered_within : (g : Setting) (news : List Record) (tally : TallyValue) (frame : Level)

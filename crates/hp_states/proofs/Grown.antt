@@ -10,8 +10,8 @@ use Rattle.hp_schedules.specs.Ends.{AreCounted}
 use Rattle.hp_schedules.specs.Notes.{IsNoted}
 use Rattle.hp_schedules.specs.Orders.{HasCount, IsFirst}
 use Rattle.hp_schedules.specs.Outcomes.{OutcomeValue}
-use Rattle.hp_schedules.specs.Schedules.{EndsWith, Setting, schedule_of}
-use Rattle.hp_states.specs.Seen.{GoesOn, Grow, IsSeen, SeenValue}
+use Rattle.hp_schedules.specs.Schedules.{EndsWith, Setting}
+use Rattle.hp_states.specs.Seen.{Grow, IsSeen, SeenValue}
 use Rattle.hp_schedules.specs.Shares.{AddsCounts}
 use Rattle.hp_schedules.specs.declared.tally.Ending.{Ending}
 use Rattle.hp_schedules.proofs.Counting.{either_listed, get_longer, none_listed, same_count}
@@ -51,11 +51,11 @@ grow_noted old new x schedule noted = elim noted [
 ]
 
 -- the end that this one was before the counts were added
-pub was_end : (old new : List Ending) (counts : List ℕ) → AddsCounts old counts new → (i : ℕ) (f : Ending)
+pub was_end : {old new : List Ending} {counts : List ℕ} → AddsCounts old counts new → (i : ℕ) (f : Ending)
     → slice_get new i ≡ Some f
     → (e : Ending) × (slice_get old i ≡ Some e) × (f.outcome ≡ e.outcome)
     × (f.first.items ≡ e.first.items) × (f.count ≡ e.count + get_or counts i 0)
-was_end old new counts adds i f h =
+was_end {old = old} {new = new} adds i f h =
     let e = get_some old i (let l = slice_get_within new i f h in omega (arith, l, adds.as_many)) in
     let m = adds.more i e.0 f e.1 h in
     (e.0, e.1, m.0, m.1, m.2)
@@ -78,7 +78,7 @@ seen_grows g old new seen grow is = record {
             (let e = get_some old k less in rw (grow.kept k e.0 f e.1 h).0 (is.counted k e.0 e.1))
         | inr past ↦
             rw (get_or_past seen.counts k 0 (omega (arith, past, is.few)))
-            (none_listed (GoesOn g (schedule_of seen.news) f.outcome)
+            (none_listed _
             (λ s on. let at = is.every s f.outcome on in grow.fresh k f h past at.0 at.1 at.2 at.3))
       ];
   every =
@@ -115,8 +115,8 @@ all_counted E ends one counts firsts every apart = record {
   apart = apart;
   total =
       rw (take_all (length ends) ends (omega arith)) at
-      (same_count (EndsBelow E ends (length ends)) (λ s. (x : OutcomeValue) × E s x)
-      (sum_by (λ (e : Ending). e.count) (take (length ends) ends)) (λ s h. (h.1.outcome, h.4))
+      (same_count (EndsBelow E ends (length ends)) (λ s. (x : OutcomeValue) × E s x) _
+      (λ s h. (h.1.outcome, h.4))
       (λ s h. let at = every s h.0 h.1 in
       (at.0, at.1, slice_get_within ends at.0 at.1 at.2, at.2, subst (E s) (sym at.3) h.1))
       (below (length ends) (omega arith)));
@@ -124,12 +124,11 @@ all_counted E ends one counts firsts every apart = record {
   where
     below : (n : ℕ) → n ≤ length ends
         → HasCount (EndsBelow E ends n) (sum_by (λ (e : Ending). e.count) (take n ends))
-    below zero le = none_listed (EndsBelow E ends 0) (λ s h. absurd (let less : h.0 < 0 = h.2 in omega arith))
+    below zero le = none_listed (EndsBelow E ends 0) (λ s h. absurd (omega (arith, h.2)))
     below (suc n) le =
         let e = get_some ends n (omega arith) in
         rw (take_next ends n e.0 e.1, sum_by_push (λ (x : Ending). x.count) (take n ends) e.0)
-        (same_count (λ s. EndsBelow E ends n s ⊎ E s e.0.outcome) (EndsBelow E ends (suc n))
-        (sum_by (λ (x : Ending). x.count) (take n ends) + e.0.count)
+        (same_count (λ s. EndsBelow E ends n s ⊎ E s e.0.outcome) (EndsBelow E ends (suc n)) _
         (λ s h. elim h [
           | inl b ↦ (b.0, b.1, omega (arith, b.2), b.3, b.4)
           | inr f ↦ (n, e.0, omega arith, e.1, f)
@@ -137,10 +136,8 @@ all_counted E ends one counts firsts every apart = record {
         (λ s h. elim (cases_lt h.0 n) [
           | inl less ↦ inl (h.0, h.1, less, h.3, h.4)
           | inr past ↦ (let same : h.0 ≡ n = omega (arith, past, h.2) in
-              let end : h.1 ≡ e.0 = cc in
-              inr (rw end at h.4))
+              let end : h.1 ≡ e.0 = cc in inr (rw end at h.4))
         ])
-        (either_listed (EndsBelow E ends n) (λ s. E s e.0.outcome)
-        (sum_by (λ (x : Ending). x.count) (take n ends)) e.0.count
+        (either_listed (EndsBelow E ends n) (λ s. E s e.0.outcome) _ _
         (λ s h f. let same = apart h.0 n h.1 e.0 h.3 e.1 (one s h.1.outcome e.0.outcome h.4 f) in
         omega (arith, same, h.2)) (below n (omega arith)) (counts n e.0 e.1)))

@@ -1,17 +1,17 @@
 -- What the walk keeps of a place, and what it adds where it is found again.
-use Rattle.std.proofs.Common.{◌≡◌, ℕ, true, List, [], ◌∷◌, ◌++◌, length, get_or, IfSome, Option, None, Some, slice_get, ap, sym, ◌∙◌, arith, inr}
+use Rattle.std.proofs.Common.{◌≡◌, ℕ, true, List, [], ◌∷◌, ◌++◌, length, IfSome, Option, None, Some, slice_get, ap, sym, ◌∙◌, arith, inr}
 use Rattle.std.proofs.lemmas.List.{length_push}
 use Rattle.std.proofs.lemmas.Option.{slice_get_within}
 use Rattle.hp_laws.proofs.Lists.{get_push_cases}
 use Rattle.hp_units.specs.declared.replies.Record.{Record}
-use Rattle.hp_steps.specs.Steps.{StepsValue}
+use Rattle.hp_memory.specs.Steps.{StepsValue}
 use Rattle.hp_schedules.specs.Alike.{AreMergeable}
 use Rattle.hp_schedules.specs.Ends.{AreCounted}
 use Rattle.hp_schedules.specs.Parts.{AllOfPart, PartValue}
 use Rattle.hp_schedules.specs.Schedules.{Setting, schedule_of}
 use Rattle.hp_states.specs.Frames.{counts_of}
 use Rattle.hp_states.specs.Seen.{AreSamePlaces, Grow, IsMemo, IsOnWay, IsRow, IsRowAmong, MemoValue}
-use Rattle.hp_schedules.specs.Shares.{AddsShares, AreAtEnds, AreSince, amount_of}
+use Rattle.hp_schedules.specs.Shares.{AddsShares, AreAtEnds, AreSince}
 use Rattle.hp_states.specs.Standing.{AreSameNumbers, IsKeyCode, IsStanding, KeepMeanings, StandingValue}
 use Rattle.hp_states.specs.Walks.{BeforeInPart, IsAt, IsPartWalkedBefore, IsPartWalkedThrough}
 use Rattle.hp_schedules.specs.declared.trail.Share.{Share}
@@ -37,20 +37,16 @@ pub row_kept : (g : Setting) (part : PartValue) (p : StepsValue) (s : StandingVa
     → IsRow g new s key shares
 row_kept g part p s old new key shares within here since grow before through key_is = record {
   seen = record { news = p.records; counts = counts_in shares (length new) };
-  told = told;
+  told = counts_tell shares (length new) since.at_ends;
   at_ends = since.at_ends;
   key_is = key_is;
   seen_is =
-      walked_seen g part (record { news = p.records; counts = counts_in shares (length new) }) old new within
-      here.played (omega (arith, counts_long shares (length new)))
-      (λ i e f h k. omega (arith, since.each i f k, told i, count_read old i e h))
-      (λ i f k past. omega (arith, since.each i f k, told i, count_past old i past)) grow before
-      through.counted;
+      walked_seen g part _ old new within here.played (omega (arith, counts_long shares (length new)))
+      (λ i e f h k. omega (arith, since.each i f k, counts_tell _ _ since.at_ends i, count_read old i e h))
+      (λ i f k past. omega (arith, since.each i f k, counts_tell _ _ since.at_ends i, count_past old i past))
+      grow before through.counted;
   room = λ t h on. through.onward t h (inr (within t on)) on;
 }
-  where
-    told : (i : ℕ) → amount_of shares i ≡ get_or (counts_in shares (length new)) i 0
-    told i = counts_tell shares (length new) since.at_ends i
 
 -- ---- one more is kept
 
@@ -62,10 +58,10 @@ memo_more g ends memo later shares is kept one =
 
 -- ---- as more is known
 
-row_extended : (g : Setting) (ends : List Ending) (old new : StandingValue) (key : List ℕ)
-    (shares : List Share)
+row_extended : {g : Setting} {ends : List Ending} {old new : StandingValue} {key : List ℕ}
+    {shares : List Share}
     → KeepMeanings old new → IsRow g ends old key shares → IsRow g ends new key shares
-row_extended g ends old new key shares keep is = grind (arith, code_kept)
+row_extended keep is = grind (arith, code_kept)
 
 -- the numbers mean what they did where more have a meaning
 pub memo_extended : (g : Setting) (ends : List Ending) (old new : MemoValue)
@@ -73,7 +69,7 @@ pub memo_extended : (g : Setting) (ends : List Ending) (old new : MemoValue)
     → IsMemo g ends old → IsMemo g ends new
 memo_extended g ends old new same keep kept = record {
   all =
-      λ i key shares here h. row_extended g ends old.standing new.standing key shares keep
+      λ i key shares here h. row_extended keep
       (kept.all i key shares (rw (← same.1) here) (rw (← same.2) h));
   many = rw (same.1, same.2) kept.many;
   mergeable = λ set. kept.mergeable (sym same.0 ∙ set);
@@ -91,16 +87,14 @@ pub memo_same : (g : Setting) (ends : List Ending) (old new : MemoValue)
 memo_same g ends old new same kept = search (arith, memo_extended, keep_same_numbers)
 
 -- while the ends grow
-row_grown : (g : Setting) (old new : List Ending) (s : StandingValue) (key : List ℕ) (shares : List Share)
+row_grown : {g : Setting} {old new : List Ending} {s : StandingValue} {key : List ℕ} {shares : List Share}
     → Grow old new → IsRow g old s key shares → IsRow g new s key shares
-row_grown g old new s key shares grow is = search (arith, at_ends_more, seen_grows, grow.longer)
+row_grown grow is = search (arith, at_ends_more, seen_grows, grow.longer)
 
 pub memo_added : (g : Setting) (old new : List Ending) (memo : MemoValue) → Grow old new → IsMemo g old memo
     → IsMemo g new memo
 memo_added g old new memo grow kept = record {
-  all =
-      λ i key shares here h. row_grown g old new memo.standing key shares grow
-      (kept.all i key shares here h);
+  all = λ i key shares here h. row_grown grow (kept.all i key shares here h);
   many = kept.many;
   mergeable = kept.mergeable;
 }
@@ -140,41 +134,34 @@ pub row_among : {R : Type 0} (now : R → List Share) (told : Option R) (keys : 
 row_among now None keys rows key shown place key_is is at = tt
 row_among now (Some r) keys rows key shown place key_is is at = (place, at, is ∙ ap Some key_is)
 
--- the row of the one that was walked
-found_row : (g : Setting) (p : StepsValue) (memo : MemoValue) (ends : List Ending) (shares : List Share)
-    → IsFound g p memo ends shares → IsRow g ends memo.standing memo.key shares
-found_row g p memo ends shares found =
-    found.kept.all found.among.0 memo.key shares found.among.2 found.among.1
+module _ {g : Setting} {p : StepsValue} {memo : MemoValue} {ends : List Ending} {shares : List Share}
+    (found : IsFound g p memo ends shares) where
+  -- the row of the one that was walked
+  found_row : IsRow g ends memo.standing memo.key shares
+  found_row = found.kept.all found.among.0 memo.key shares found.among.2 found.among.1
 
--- its counts are added to the ends, and the history has room for what goes on from here
-pub found_walked : (g : Setting) (part : PartValue) (p : StepsValue) (memo : MemoValue)
-    (old new : List Ending) (shares : List Share)
-    → AllOfPart (length g.scripts) part (schedule_of p.records)
-    → IsFound g p memo old shares → IsPartWalkedBefore g part (schedule_of p.records) old
-    → AddsShares old shares new
-    → IsPartWalkedThrough g part (schedule_of p.records) new × Grow old new
-found_walked g part p memo old new shares within found before adds =
-    let row = found_row g p memo old shares found in
-    let counts = adds_told old new shares row.seen.counts row.told adds in
-    let mergeable = found.kept.mergeable found.on in
-    let alike =
-    codes_alike g memo.standing row.seen.news p.records memo.key row.seen_is.played found.here.played
-    row.key_is found.key_is in (
-      record {
-        counted =
-            merged g part (schedule_of p.records) p.records row.seen old new within mergeable
-            found.here.played alike row.seen_is before.counted counts;
-        ordered = ordered_added old new row.seen.counts before.ordered counts;
-        room = before.room;
-        onward =
-            λ s h comes on.
-            room_alike g (schedule_of row.seen.news) (schedule_of p.records) row.seen.news p.records mergeable
-            row.seen_is.played found.here.played alike row.room s h on;
-      },
-      grow_added old new row.seen.counts counts,
-    )
+  -- its counts are added to the ends, and the history has room for what goes on from here
+  pub found_walked : (part : PartValue) (new : List Ending)
+      → AllOfPart (length g.scripts) part (schedule_of p.records)
+      → IsPartWalkedBefore g part (schedule_of p.records) ends → AddsShares ends shares new
+      → IsPartWalkedThrough g part (schedule_of p.records) new × Grow ends new
+  found_walked part new within before adds =
+      let row = found_row in
+      let counts = adds_told ends new shares row.seen.counts row.told adds in
+      let mergeable = found.kept.mergeable found.on in
+      let alike = codes_alike g _ _ _ _ row.seen_is.played found.here.played row.key_is found.key_is in (
+        record {
+          counted =
+              merged g part _ p.records row.seen ends new within mergeable found.here.played alike row.seen_is
+              before.counted counts;
+          ordered = ordered_added ends new row.seen.counts before.ordered counts;
+          room = before.room;
+          onward =
+              λ s h comes on.
+              room_alike g _ _ _ _ mergeable row.seen_is.played found.here.played alike row.room s h on;
+        },
+        grow_added ends new row.seen.counts counts,
+      )
 
-pub found_at_ends : (g : Setting) (p : StepsValue) (memo : MemoValue) (ends : List Ending)
-    (shares : List Share)
-    → IsFound g p memo ends shares → AreAtEnds (length ends) shares
-found_at_ends g p memo ends shares found = (found_row g p memo ends shares found).at_ends
+  pub found_at_ends : AreAtEnds (length ends) shares
+  found_at_ends = found_row.at_ends

@@ -18,7 +18,7 @@ use Rattle.hp_states.specs.Stops.{AreNumbersAt, IsNumbering}
 use Rattle.hp_states.proofs.Apart.{counted-apart}
 use Rattle.hp_states.proofs.Exchanged.{exchanges_other, exchanges_own}
 use Rattle.hp_states.proofs.StopNumbers.{joined_equal, numbers_join, numbers_kept}
-use Rattle.hp_renumbering.proofs.Numbered.{differ}
+use Rattle.hp_laws.proofs.Numbered.{differ}
 use Rattle.hp_units.specs.History.{net_of}
 use Rattle.hp_schedules.proofs.Plays.{asks_within, caller}
 

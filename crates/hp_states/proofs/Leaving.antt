@@ -1,29 +1,26 @@
 -- A place that the walk leaves: what was counted since it came there.
-use Rattle.std.proofs.Common.{◌≡◌, ◌≤◌, List, length, drop, subst, sym, arith}
+use Rattle.std.proofs.Common.{◌≡◌, ◌≤◌, List, length, drop, arith}
 use Rattle.std.proofs.lemmas.List.{length-map}
 use Rattle.hp_units.specs.declared.replies.Record.{Record}
 use Rattle.hp_schedules.specs.Notes.{TallyValue}
 use Rattle.hp_schedules.specs.Parts.{PartValue}
 use Rattle.hp_schedules.specs.Schedules.{Setting, schedule_of}
-use Rattle.hp_schedules.specs.Shares.{AreSince}
 use Rattle.hp_schedules.specs.Trails.{KeepsBefore}
 use Rattle.hp_schedules.specs.declared.cursors.Cursor.{Cursor}
 use Rattle.hp_schedules.specs.declared.trail.Share.{Share}
-use Rattle.hp_schedules.specs.declared.tally.Ending.{Ending}
 use Rattle.hp_states.specs.Frames.{IsKeeping, IsLeaving, counts_of}
-use Rattle.hp_states.specs.Seen.{Grow, IsMemo, MemoValue}
-use Rattle.hp_states.specs.Walks.{IsPartWalkedThrough}
+use Rattle.hp_states.specs.Seen.{MemoValue}
 use Rattle.hp_states.specs.declared.frames.Level.{Level}
 use Rattle.hp_states.proofs.Counts.{counts_many}
 use Rattle.hp_states.proofs.OfPart.{comes_all}
 
 -- where all that go on from there belong to the part
-pub left_kept : (g : Setting) (part : PartValue) (news : List Record) (cursors : List Cursor)
-    (old new : TallyValue) (memo : MemoValue) (frame : Level) (shares : List Share)
+pub left_kept : {g : Setting} {part : PartValue} {news : List Record} {cursors : List Cursor}
+    {old : TallyValue} (new : TallyValue) {memo : MemoValue} {frame : Level} {shares : List Share}
     → part.calls ≤ length news → KeepsBefore frame.start old new → new.ends ≡ old.ends
     → shares ≡ drop frame.start new.trail → IsLeaving g part news cursors old memo frame
     → IsKeeping g news cursors new.ends shares memo
-left_kept g part news cursors old new memo frame shares long told same is leaving =
+left_kept {g = g} {part = part} {news = news} new {frame = frame} long told same is leaving =
     let reached = leaving.frame_is.reached in
     record {
       played = leaving.played;
@@ -35,13 +32,13 @@ left_kept g part news cursors old new memo frame shares long told same is leavin
             (omega (arith, long, length-map news (λ (r : Record). r.cpu)));
         old = reached.old;
         counted =
-            subst (AreSince (counts_of reached.old) new.ends) (sym is)
+            rw is
             (told.told frame.start (counts_of reached.old) (omega arith)
             (omega (arith, counts_many reached.old, reached.grown.longer)) reached.counted);
         before = reached.before;
-        grown = subst (Grow reached.old) (sym same) reached.grown;
-        through = subst (IsPartWalkedThrough g part (schedule_of news)) (sym same) leaving.through;
+        grown = rw same reached.grown;
+        through = rw same leaving.through;
       };
-      memo_is = subst (λ (ends : List Ending). IsMemo g ends memo) (sym same) leaving.memo_is;
+      memo_is = rw same leaving.memo_is;
       way = leaving.way;
     }

@@ -51,20 +51,19 @@ unfolding outcome_after
 walked_on g part news n true ends new all played end done adds =
     let before = rw all at done in
     let noted = rw all at adds in
-    done_up g part (schedule_of news) news ends new played before
-    (walk_notes g part (schedule_of news) news ends new played (over_all g news end.0) end.1 before.counted
-    noted)
-    (ordered_noted g part (schedule_of news) ends new _ before.ordered
-    (walk_here g part (schedule_of news) news ends played (over_all g news end.0) before.counted) noted)
+    let over = over_all g news end.0 in
+    done_up g part _ news ends new played before
+    (walk_notes g part _ news ends new played over end.1 before.counted noted)
+    (ordered_noted g part _ ends new _ before.ordered
+    (walk_here g part _ news ends played over before.counted) noted)
 walked_on g part news n false ends new all played end done same =
     let before = rw all at done in
     rw same (elim end [
-      | inl asks ↦ done_up g part (schedule_of news) news ends ends played before
-          (walk_up g part (schedule_of news) news asks.0 asks.1 ends played asks.2 before.counted)
+      | inl asks ↦ done_up g part _ news ends ends played before
+          (walk_up g part _ news asks.0 asks.1 ends played asks.2 before.counted) before.ordered
+      | inr apart ↦ done_up g part _ news ends ends played before
+          (walk_apart g part _ news ends played (over_all g news apart.0) apart.1 before.counted)
           before.ordered
-      | inr apart ↦ done_up g part (schedule_of news) news ends ends played before
-          (walk_apart g part (schedule_of news) news ends played (over_all g news apart.0) apart.1
-          before.counted) before.ordered
     ])
 
 pub noted_grows : (n : ℕ) (news : List Record) (g : Setting) (is_end : Bool) (ends new : List Ending)

@@ -20,7 +20,7 @@ use Rattle.hp_schedules.specs.Schedules.{Setting}
 use Rattle.hp_schedules.specs.declared.changes.Change.TheVariants.{Stays, Begins, Works, Cancels, Ends}
 use Rattle.hp_states.specs.declared.openings.Entry.{Entry}
 use Rattle.hp_states.proofs.Numberings.{made_added}
-use Rattle.hp_renumbering.specs.Renumbered.{renumbered}
+use Rattle.hp_laws.specs.Renumbered.{renumbered}
 use Rattle.hp_schedules.proofs.JoinedBy.{cancel_same, work_same}
 use Rattle.hp_schedules.proofs.Opened.{none_after, open_more}
 use Rattle.hp_schedules.proofs.Openings.{changed, openings_after}
@@ -29,11 +29,8 @@ use Rattle.hp_schedules.proofs.Openings.{changed, openings_after}
 
 pub named_kept : (l : LayoutParts) (old new : List (List ℕ)) (ns : List NumberedOpening) (os : List Opening)
     → KeepCodes old new → AreNamed l old ns os → AreNamed l new ns os
-named_kept l old new (n ∷ ns) (o ∷ os) keep named = (
-  named.0,
-  coded_is_kept l old new n.memory o.memory keep named.1,
-  named_kept l old new ns os keep named.2,
-)
+named_kept l old new (n ∷ ns) (o ∷ os) keep named =
+    grind (arith, coded_is_kept, named_kept l old new ns os keep named.2)
 named_kept l old new _ _ keep named = named
 
 -- they name only these
@@ -76,43 +73,33 @@ front_added old new e number is number_is os h =
 
 -- where a list is empty, or another operation is the first, nothing is left
 pub made_empty : (f : List NumberedOpening → List NumberedOpening) (lists : List (List NumberedOpening))
-    (was : Option ℕ) (n m : ℕ)
+    {was : Option ℕ} (n m : ℕ)
     → f [] ≡ [] → was ≡ Some n → ((os : List NumberedOpening) → slice_get lists n ≡ Some os → os ≡ [])
     → slice_get lists m ≡ Some [] → IsMadeBy f lists was (Some m)
-made_empty f lists was n m none is empty here =
+made_empty f lists n m none is empty here =
     rw is (λ os h. (m, refl, rw (empty os h, none) here))
 
 -- else the list is that of the entry
-made_first : (f : List NumberedOpening → List NumberedOpening) (lists : List (List NumberedOpening))
-    (was : Option ℕ) (n m : ℕ)
-    (e : Entry)
-    → was ≡ Some n → (at : IsEntryOf lists n e)
-    → slice_get lists m ≡ Some (f (opening_of e ∷ at.0))
-    → IsMadeBy f lists was (Some m)
-made_first f lists was n m e is made here =
-    rw is (λ os h. let same : opening_of e ∷ made.0 ≡ os = cc in (m, refl, rw (← same) here))
+module _ (lists : List (List NumberedOpening)) {was : Option ℕ} {n : ℕ} (op : ℕ) (e : Entry)
+    (is : was ≡ Some n) (made : IsEntryOf lists n e) where
+  made_first : (f : List NumberedOpening → List NumberedOpening) (m : ℕ)
+      → slice_get lists m ≡ Some (f (opening_of e ∷ made.0)) → IsMadeBy f lists was (Some m)
+  made_first f m here =
+      rw is (λ os h. let same : opening_of e ∷ made.0 ≡ os = cc in (m, refl, rw (← same) here))
 
-pub same_work : (lists : List (List NumberedOpening)) (was : Option ℕ) (n op : ℕ) (e : Entry)
-    → was ≡ Some n → IsEntryOf lists n e → eqb e.op op ≡ true → IsMadeBy (after_work op) lists was (Some n)
-same_work lists was n op e is made same = made_first (after_work op) lists was n n e is made (rw same made.2)
+  pub same_work : eqb e.op op ≡ true → IsMadeBy (after_work op) lists was (Some n)
+  same_work same = made_first (after_work op) n (rw same made.2)
 
-pub other_work : (lists : List (List NumberedOpening)) (was : Option ℕ) (n m op : ℕ) (e : Entry)
-    → was ≡ Some n → IsEntryOf lists n e → eqb e.op op ≡ false → slice_get lists m ≡ Some []
-    → IsMadeBy (after_work op) lists was (Some m)
-other_work lists was n m op e is made differ here =
-    made_first (after_work op) lists was n m e is made (rw differ here)
+  pub other_work : (m : ℕ) → eqb e.op op ≡ false → slice_get lists m ≡ Some []
+      → IsMadeBy (after_work op) lists was (Some m)
+  other_work m differ here = made_first (after_work op) m (rw differ here)
 
-pub same_cancel : (lists : List (List NumberedOpening)) (was : Option ℕ) (n op : ℕ) (e : Entry)
-    → was ≡ Some n → IsEntryOf lists n e → eqb e.op op ≡ true
-    → IsMadeBy (after_cancel op) lists was (Some e.below)
-same_cancel lists was n op e is made same =
-    made_first (after_cancel op) lists was n e.below e is made (rw same made.1)
+  pub same_cancel : eqb e.op op ≡ true → IsMadeBy (after_cancel op) lists was (Some e.below)
+  same_cancel same = made_first (after_cancel op) e.below (rw same made.1)
 
-pub other_cancel : (lists : List (List NumberedOpening)) (was : Option ℕ) (n m op : ℕ) (e : Entry)
-    → was ≡ Some n → IsEntryOf lists n e → eqb e.op op ≡ false → slice_get lists m ≡ Some []
-    → IsMadeBy (after_cancel op) lists was (Some m)
-other_cancel lists was n m op e is made differ here =
-    made_first (after_cancel op) lists was n m e is made (rw differ here)
+  pub other_cancel : (m : ℕ) → eqb e.op op ≡ false → slice_get lists m ≡ Some []
+      → IsMadeBy (after_cancel op) lists was (Some m)
+  other_cancel m differ here = made_first (after_cancel op) m (rw differ here)
 
 module _ (p : ℕ → ℕ) (g : Setting) (codes : List (List ℕ)) where
   -- one record more, where the number means what it makes
@@ -211,14 +198,14 @@ changed_on at numbering g codes old new news r from was number leaves changes he
         (made_on (at news) g codes old news r was number (after_work (at news op)) (after_work op)
         (λ memory os. ap (changed memory r.serial os) is)
         (λ ns os named. rw (work_same (at news) (numbering.differ news) op os)
-        (named_work g.layout codes (at news op) ns (map (renumbered_opening (at news)) os) named))
+        (named_work g.layout codes (at news op) ns _ named))
         leaves made.1 before)
     by_change (Cancels op) is made =
         rw (numbering.steady news r (λ ends. cc), made.0)
         (made_on (at news) g codes old news r was number (after_cancel (at news op)) (after_cancel op)
         (λ memory os. ap (changed memory r.serial os) is)
         (λ ns os named. rw (cancel_same (at news) (numbering.differ news) op os)
-        (named_cancel g.layout codes (at news op) ns (map (renumbered_opening (at news)) os) named))
+        (named_cancel g.layout codes (at news op) ns _ named))
         leaves made.1 before)
     by_change Ends is made =
         rw made.0 (ends_on (at (news ++ r ∷ [])) g codes old news r number is leaves made.1)

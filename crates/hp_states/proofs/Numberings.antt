@@ -22,9 +22,7 @@ module _ {E X : Type 0} (below : E → ℕ) (put : E → List X → List X) wher
   many : (entries : List E) (lists : List (List X))
       → length (fold (with_entry below put) lists entries) ≡ length lists + length entries
   many [] lists = omega arith
-  many (e ∷ entries) lists =
-      let one : List X = put e (get_or lists (below e) []) in
-      omega (arith, many entries (with_entry below put lists e), length_push lists one)
+  many (e ∷ entries) lists = grind (arith, many entries (with_entry below put lists e), length_push)
 
   pub lists_many : (entries : List E) → length (lists_from below put entries) ≡ length entries + 1
   lists_many entries = omega (arith, many entries ([] ∷ []))

@@ -1,16 +1,14 @@
 -- The codes of the parts of a state, and of a whole state, tell them apart.
-use Rattle.std.proofs.Common.{◌/◌, ℕ, zero, suc, ◌≡◌, ◌≤◌, List, [], ◌∷◌, ◌++◌, Bool, true, false, Option, None, Some, refl, sym, ◌∙◌, ap, arith, append_assoc}
+use Rattle.std.proofs.Common.{◌/◌, ℕ, zero, suc, ◌≡◌, ◌≤◌, [], ◌∷◌, ◌++◌, Bool, true, false, Option, None, Some, refl, sym, ◌∙◌, ap, arith, append_assoc}
 use Rattle.std.specs.List.{flat_map}
 use Rattle.hp_units.specs.LayoutParts.{LayoutParts}
 use Rattle.hp_units.specs.Memory.{Memory}
 use Rattle.hp_units.specs.Placement.{IsShaped}
 use Rattle.hp_units.specs.declared.rows.Auto.{Auto}
 use Rattle.hp_units.specs.declared.rows.Auto.TheVariants.{Offline as OfflineAuto, Online as OnlineAuto, OnlineKernel as KernelAuto, OnlineMovable as MovableAuto}
-use Rattle.hp_units.specs.declared.rows.Claim.{Claim}
 use Rattle.hp_units.specs.declared.rows.Kind.{Kind}
 use Rattle.hp_units.specs.declared.rows.Mobility.{Mobility}
 use Rattle.hp_units.specs.declared.rows.Mobility.TheVariants.{Unmovable, Movable}
-use Rattle.hp_units.specs.declared.rows.Row.{Row}
 use Rattle.hp_units.specs.declared.rows.State.{State}
 use Rattle.hp_units.specs.declared.rows.State.TheVariants.{Offline as OfflineState, Online as OnlineState, Going as GoingState, Absent as AbsentState}
 use Rattle.hp_units.specs.declared.rows.Wish.{Wish}
@@ -23,7 +21,7 @@ use Rattle.hp_states.specs.Parts.{auto_number, claim_code, counted_code, kind_co
 use Rattle.hp_states.specs.Codes.{state_code}
 use Rattle.hp_states.proofs.Apart.{TellsApart, counted-apart, heads, many-apart, number-apart, option-apart, rows-apart, words-apart}
 
--- ---- a value of a number
+-- ---- values with one number are the same
 
 abbrev kind_numbered : ℕ → Kind
 kind_numbered zero = record { mobility = Unmovable; isolated = false }
@@ -38,17 +36,12 @@ kind_back Movable false = refl
 kind_back Unmovable true = refl
 kind_back Movable true = refl
 
-abbrev state_numbered : ℕ → State
-state_numbered zero = OfflineState
-state_numbered (suc zero) = OnlineState
-state_numbered (suc (suc zero)) = GoingState
-state_numbered (suc (suc (suc n))) = AbsentState
-
-state_back : (state : State) → state_numbered (state_number state) ≡ state
-state_back OfflineState = refl
-state_back OnlineState = refl
-state_back GoingState = refl
-state_back AbsentState = refl
+state-same : (a b : State) → state_number a ≡ state_number b → a ≡ b
+state-same OfflineState OfflineState e = refl
+state-same OnlineState OnlineState e = refl
+state-same GoingState GoingState e = refl
+state-same AbsentState AbsentState e = refl
+state-same _ _ e = absurd (omega (arith, e))
 
 abbrev zone_numbered : ℕ → Option Zone
 zone_numbered zero = None
@@ -60,33 +53,23 @@ zone_back None = refl
 zone_back (Some NormalZone) = refl
 zone_back (Some MovableZone) = refl
 
-abbrev wish_numbered : ℕ → Wish
-wish_numbered zero = OffWish
-wish_numbered (suc zero) = OffWish
-wish_numbered (suc (suc zero)) = NormalWish
-wish_numbered (suc (suc (suc n))) = MovableWish
-
-wish_back : (wish : Wish) → wish_numbered (wish_number wish) ≡ wish
-wish_back OffWish = refl
-wish_back NormalWish = refl
-wish_back MovableWish = refl
+wish-same : (a b : Wish) → wish_number a ≡ wish_number b → a ≡ b
+wish-same OffWish OffWish e = refl
+wish-same NormalWish NormalWish e = refl
+wish-same MovableWish MovableWish e = refl
+wish-same _ _ e = absurd (omega (arith, e))
 
 wish_some : (wish : Wish) → 1 ≤ wish_number wish
 wish_some OffWish = omega arith
 wish_some NormalWish = omega arith
 wish_some MovableWish = omega arith
 
-abbrev auto_numbered : ℕ → Auto
-auto_numbered zero = OfflineAuto
-auto_numbered (suc zero) = OnlineAuto
-auto_numbered (suc (suc zero)) = KernelAuto
-auto_numbered (suc (suc (suc n))) = MovableAuto
-
-auto_back : (auto : Auto) → auto_numbered (auto_number auto) ≡ auto
-auto_back OfflineAuto = refl
-auto_back OnlineAuto = refl
-auto_back KernelAuto = refl
-auto_back MovableAuto = refl
+auto-same : (a b : Auto) → auto_number a ≡ auto_number b → a ≡ b
+auto-same OfflineAuto OfflineAuto e = refl
+auto-same OnlineAuto OnlineAuto e = refl
+auto-same KernelAuto KernelAuto e = refl
+auto-same MovableAuto MovableAuto e = refl
+auto-same _ _ e = absurd (omega (arith, e))
 
 -- ---- kinds and rows
 
@@ -99,58 +82,26 @@ kind-apart a b xs ys e =
 
 claim-apart : TellsApart claim_code
 claim-apart None None xs ys e = (refl, (heads e).1)
-claim-apart None (Some b) xs ys e =
-    let h = heads e in
-    absurd (omega (arith, h.0, wish_some b.wish))
-claim-apart (Some a) None xs ys e =
-    let h = heads e in
-    absurd (omega (arith, h.0, wish_some a.wish))
+claim-apart None (Some b) xs ys e = absurd (omega (arith, (heads e).0, wish_some b.wish))
+claim-apart (Some a) None xs ys e = absurd (omega (arith, (heads e).0, wish_some a.wish))
 claim-apart (Some a) (Some b) xs ys e =
     let first = heads e in
     let odd = heads first.1 in
     let rest = number-apart (a.op / 2) (b.op / 2) xs ys odd.1 in
     let op : a.op ≡ b.op = omega (arith, odd.0, rest.0) in
-    let wish : a.wish ≡ b.wish =
-    sym (wish_back a.wish) ∙ (ap wish_numbered first.0 ∙ wish_back b.wish) in (
-      ap (λ (n : ℕ). Some (record { op = n; wish = a.wish })) op
-          ∙ ap (λ (w : Wish). Some (record { op = b.op; wish = w })) wish,
-      rest.1,
-    )
+    let wish = wish-same a.wish b.wish first.0 in
+    (grind (arith, op, wish), rest.1)
 
 row-apart : TellsApart row_code
 row-apart a b xs ys e =
     let first = heads e in
     let second = heads first.1 in
     let rest = claim-apart a.claim b.claim xs ys second.1 in
-    let state : a.state ≡ b.state =
-    sym (state_back a.state) ∙ (ap state_numbered first.0 ∙ state_back b.state) in
-    let zone : a.zone ≡ b.zone = sym (zone_back a.zone) ∙ (ap zone_numbered second.0 ∙ zone_back b.zone) in (
-      ap (λ (s : State). record { state = s; zone = a.zone; claim = a.claim }) state
-          ∙ (ap (λ (z : Option Zone). record { state = b.state; zone = z; claim = a.claim }) zone
-          ∙ ap (λ (c : Option Claim). record { state = b.state; zone = b.zone; claim = c }) rest.0),
-      rest.1,
-    )
+    let state = state-same a.state b.state first.0 in
+    let zone : a.zone ≡ b.zone = sym (zone_back a.zone) ∙ (ap zone_numbered second.0 ∙ zone_back b.zone) in
+    (grind (arith, state, zone, rest.0), rest.1)
 
 -- ---- a whole state
-
--- a state of its parts
-unfoldable made : List (List ℕ) → List Kind → List (List ℕ) → List (List (Option ℕ))
-    → List (List (Option (List ℕ))) → List (Option ℕ) → List Row → Auto → Memory
-made lists kinds cached table contents kernel rows auto = record {
-  free = record { areas = record { lists = lists; kinds = kinds }; cached = cached };
-  pages = record { table = table; contents = contents };
-  kernel = kernel;
-  blocks = record { rows = rows; auto = auto };
-}
-
-abbrev made_of : Memory → Memory
-made_of m =
-    made m.free.areas.lists m.free.areas.kinds m.free.cached m.pages.table m.pages.contents m.kernel
-    m.blocks.rows m.blocks.auto
-
-made_is : (m : Memory) → made_of m ≡ m
-unfolding made
-made_is m = refl
 
 -- the parts one after another, each in front of all that follow
 right : (l : LayoutParts) (m : Memory)
@@ -168,19 +119,13 @@ pub states-apart : (l : LayoutParts) (a b : Memory) → IsShaped l a → IsShape
 states-apart l a b p q e =
     let lists = many-apart counted_code counted-apart a.free.areas.lists b.free.areas.lists _ _
     (p.lists ∙ sym q.lists) (sym (right l a) ∙ (e ∙ right l b)) in
-    let kinds = many-apart kind_code kind-apart a.free.areas.kinds b.free.areas.kinds _ _
-    (p.kinds ∙ sym q.kinds) lists.1 in
-    let cached = many-apart counted_code counted-apart a.free.cached b.free.cached _ _
-    (p.cached ∙ sym q.cached) kinds.1 in
-    let table = rows-apart option_code option-apart l.pages a.pages.table b.pages.table _ _
-    (p.owners ∙ sym q.owners) p.pages q.pages cached.1 in
-    let contents = rows-apart words_code words-apart l.pages a.pages.contents b.pages.contents _ _
+    let kinds = many-apart kind_code kind-apart _ _ _ _ (p.kinds ∙ sym q.kinds) lists.1 in
+    let cached = many-apart counted_code counted-apart _ _ _ _ (p.cached ∙ sym q.cached) kinds.1 in
+    let table = rows-apart option_code option-apart l.pages _ _ _ _ (p.owners ∙ sym q.owners) p.pages q.pages
+    cached.1 in
+    let contents = rows-apart words_code words-apart l.pages _ _ _ _
     (p.content_owners ∙ sym q.content_owners) p.content_pages q.content_pages table.1 in
-    let kernel = many-apart option_code option-apart a.kernel b.kernel _ _ (p.kernel ∙ sym q.kernel)
-    contents.1 in
-    let rows = many-apart row_code row-apart a.blocks.rows b.blocks.rows _ _ (p.rows ∙ sym q.rows)
-    kernel.1 in
-    let last = heads rows.1 in
-    let auto : a.blocks.auto ≡ b.blocks.auto =
-    sym (auto_back a.blocks.auto) ∙ (ap auto_numbered last.0 ∙ auto_back b.blocks.auto) in
-    sym (made_is a) ∙ ((cc (lists.0, kinds.0, cached.0, table.0, contents.0, kernel.0, rows.0)) ∙ made_is b)
+    let kernel = many-apart option_code option-apart _ _ _ _ (p.kernel ∙ sym q.kernel) contents.1 in
+    let rows = many-apart row_code row-apart _ _ _ _ (p.rows ∙ sym q.rows) kernel.1 in
+    let auto = auto-same a.blocks.auto b.blocks.auto (heads rows.1).0 in
+    grind (arith, lists.0, kinds.0, cached.0, table.0, contents.0, kernel.0, rows.0, auto)

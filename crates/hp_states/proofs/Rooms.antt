@@ -18,12 +18,12 @@ use Rattle.hp_schedules.specs.Shares.{AddsCounts}
 use Rattle.hp_states.specs.Walks.{BeforeInPart, HasPartRoomBefore, HasPartRoomFrom, HasRoomFrom, IsPartWalkedBefore, IsPartWalkedThrough, ThroughInPart}
 use Rattle.hp_schedules.specs.declared.tally.Ending.{Ending}
 use Rattle.hp_schedules.proofs.Alike.{all_calls, call_same, played_alike}
-use Rattle.hp_schedules.proofs.Counts.{get_set_cases, same_counted}
+use Rattle.hp_schedules.proofs.Counts.{get_set_cases}
 use Rattle.hp_states.proofs.Grown.{was_end}
 use Rattle.hp_states.proofs.Merges.{turned}
 use Rattle.hp_states.proofs.OfPart.{NoneOfPart}
 use Rattle.hp_schedules.proofs.Plays.{asks_within, plays_on, plays_push, stops}
-use Rattle.hp_states.proofs.Walks.{walk_begins, walk_down, walk_over, walk_past}
+use Rattle.hp_states.proofs.Walks.{alike, walk_begins, walk_down, walk_over, walk_past}
 use Rattle.hp_schedules.proofs.Regions.{before_first, before_longer, before_next, extends_before, extends_cons}
 
 -- ---- one call
@@ -36,10 +36,8 @@ push_extends [] (d ∷ e ∷ q) rest c is = absurd cc
 push_extends (a ∷ s) (d ∷ q) rest c is =
     let first : a ≡ d = cc in
     let others : s ++ c ∷ [] ≡ q ++ rest = cc in
-    elim (push_extends s q rest c others) [
-      | inl same ↦ inl (cc)
-      | inr on ↦ inr (extends_cons d a s q first on)
-    ]
+    elim (push_extends s q rest c others)
+    [ inl same ↦ inl (cc) | inr on ↦ inr (extends_cons d a s q first on) ]
 
 -- a call that is made leaves none that has no room there
 pub was_room : (g : Setting) (p : List ℕ) (news : List Record) (s : List ℕ) → plays g p ≡ Some news
@@ -73,11 +71,8 @@ room_from g part p news played room s h comes on = by_rest on.0 on.1
         none-some h.news (sym (ap (plays g) is ∙ stops g p rest news c played over) ∙ h.played)
     by_next c rest is (Some e) asks =
         room s h comes
-        (extends_before (s ++ h.cpu ∷ []) p c (length g.scripts) (asks_within g news c e asks) (
-          rest ++ h.cpu ∷ [],
-          ap (λ (t : List ℕ). t ++ h.cpu ∷ []) is
-              ∙ (append_assoc p (c ∷ rest) (h.cpu ∷ []) ∙ sym (append_assoc p (c ∷ []) (rest ++ h.cpu ∷ []))),
-        ))
+        (extends_before (s ++ h.cpu ∷ []) p c (length g.scripts) (asks_within g news c e asks)
+        (rest ++ h.cpu ∷ [], rw is (simp append_assoc)))
 
     by_rest : (rest : List ℕ) → s ≡ p ++ rest → ⊥
     by_rest [] is = here (is ∙ append-nil p)
@@ -140,8 +135,8 @@ module _ (g : Setting) (part : PartValue) (p : List ℕ) where
       → IsPartWalkedThrough g part p ends
   done_apart ends none w = record {
     counted =
-        same_counted (BeforeInPart g part p) (ThroughInPart g part p) ends (λ s x h. (inl h.0, h.1))
-        (λ s x h. (elim h.0 [ inl b ↦ b | inr e ↦ absurd (none s e (inr h.1.1)) ], h.1)) w.counted;
+        alike part w.counted (λ s x on. inl)
+        (λ s x on h. elim h [ inl b ↦ b | inr e ↦ absurd (none s e (inr on.1)) ]);
     ordered = w.ordered;
     room = w.room;
     onward = λ s h comes on. none s on comes;
@@ -160,7 +155,7 @@ ordered_like old new ordered was i j e f less h k = grind (arith)
 pub ordered_added : (old new : List Ending) (counts : List ℕ) → AreInOrder old → AddsCounts old counts new
     → AreInOrder new
 ordered_added old new counts ordered adds =
-    ordered_like old new ordered (λ i f h. let e = was_end old new counts adds i f h in (e.0, e.1, e.3))
+    ordered_like old new ordered (λ i f h. let e = was_end adds i f h in (e.0, e.1, e.3))
 
 -- a schedule is noted under an end, or under one of its own after all that stand before it
 pub ordered_noted : (g : Setting) (part : PartValue) (p : List ℕ) (old new : List Ending) (x : OutcomeValue)

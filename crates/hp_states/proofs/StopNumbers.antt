@@ -11,8 +11,8 @@ use Rattle.hp_units.specs.Memory.{Memory}
 use Rattle.hp_units.specs.declared.replies.Record.{Record}
 use Rattle.hp_schedules.specs.Alike.{AreJoined, is_closed}
 use Rattle.hp_states.specs.Interned.{KeepNumbers}
-use Rattle.hp_renumbering.specs.Renumbered.{IsOneToOne, renumbered}
-use Rattle.hp_renumbering.proofs.Alike.{memories_equal}
+use Rattle.hp_laws.specs.Renumbered.{IsOneToOne, renumbered}
+use Rattle.hp_laws.proofs.Alike.{memories_equal}
 use Rattle.hp_schedules.specs.Continuing.{AreJoinedBy}
 use Rattle.hp_schedules.specs.Openings.{NumberedOpening, Opening, renumbered_opening}
 use Rattle.hp_schedules.specs.Schedules.{Setting}
@@ -141,12 +141,6 @@ module _ (at : List Record → ℕ → ℕ) (g : Setting) where
 
 -- ---- places with equal numbers
 
-openings_same : (p q : ℕ → ℕ) (g : Setting) (s : StopsValue) (h k : List Record) (n : ℕ)
-    → (first : IsNumbered p g s.codes s.lists h (Some n))
-    → (second : IsNumbered q g s.codes s.lists k (Some n))
-    → map (renumbered_opening p) first.1 ≡ map (renumbered_opening q) second.1
-openings_same p q g s h k n first second = grind (arith, named_once)
-
 -- with the numbers of their operations, their states are the same, and Cancels lead back to the same states
 pub openings_join : (p q : ℕ → ℕ) (g : Setting) (s : StopsValue) (h k : List Record) (openings : ℕ)
     → renumbered p (value_of g.layout g.base (g.start ++ h))
@@ -159,7 +153,7 @@ openings_join p q g s h k openings state first second = record {
   second_openings = second.1;
   first_open = first.4;
   second_open = second.4;
-  openings = openings_same p q g s h k openings first second;
+  openings = grind (arith, named_once);
   state = state;
 }
 
@@ -175,9 +169,7 @@ openings_equal p one [] [] same = refl
 openings_equal p one (o ∷ os) (u ∷ us) same =
     let first : renumbered_opening p o ≡ renumbered_opening p u = cc in
     let rest : map (renumbered_opening p) os ≡ map (renumbered_opening p) us = cc in
-    let op = one o.op u.op (ap (λ (x : Opening). x.op) first) in
-    let memory = memories_equal p one o.memory u.memory (ap (λ (x : Opening). x.memory) first) in
-    grind (arith, openings_equal p one os us rest)
+    grind (arith, one o.op u.op, memories_equal p one o.memory u.memory, openings_equal p one os us rest)
 openings_equal p one _ _ same = absurd cc
 
 pub joined_equal : (p : ℕ → ℕ) → IsOneToOne p → (l : LayoutParts) (base : Memory) (a b : List Record)

@@ -1,5 +1,5 @@
 -- The frames of a list, one after another in place.
-use Rattle.std.proofs.Common.{ℕ, zero, suc, ◌≡◌, ◌≢◌, ◌+◌, ◌/◌, ◌<◌, ◌≤◌, ◌==◌, List, [], ◌∷◌, ◌++◌, true, false, Some, get_or, slice_get, take, refl, sym, ◌∙◌, ap, subst, arith, inl, inr, eq-eqb, ne_eqb}
+use Rattle.std.proofs.Common.{ℕ, zero, suc, ◌≡◌, ◌≢◌, ◌+◌, ◌/◌, ◌<◌, ◌≤◌, ◌==◌, List, [], ◌∷◌, ◌++◌, true, false, Some, get_or, slice_get, take, refl, sym, ◌∙◌, ap, arith, inl, inr, eq-eqb, ne_eqb}
 use Rattle.std.specs.List.{flat_map}
 use Rattle.std.specs.Prelude.{sum_by}
 use Rattle.std.proofs.lemmas.Bool.{cases_eq, cases_lt, cond-false, cond-true, false_from_ne_true}
@@ -10,14 +10,14 @@ use Rattle.hp_units.specs.Arithmetic.{frame_count}
 use Rattle.hp_units.specs.FreeAreas.{is_on}
 use Rattle.hp_units.specs.Memory.{Memory}
 use Rattle.hp_units.specs.Placement.{IsWellPlaced, covered, list_places, places_from}
-use Rattle.hp_lemmas.proofs.Lists.{covered-self, on_tail}
-use Rattle.hp_lemmas.proofs.Placed.{past-offline}
-use Rattle.hp_lemmas.proofs.Places.{list_places-cons}
-use Rattle.hp_links.specs.LinkedLists.{first, successor}
+use Rattle.hp_units.proofs.ListEdits.{covered-self, on_tail}
+use Rattle.hp_units.proofs.Placed.{past-offline}
+use Rattle.hp_units.proofs.Places.{list_places-cons}
+use Rattle.hp_buddy.specs.LinkedLists.{first, successor}
 use Rattle.hp_buddy.specs.Buddy.{next_from}
-use Rattle.hp_cpus.specs.Cpus.{one_at}
-use Rattle.hp_cpus.proofs.Counts.{one-self, times, times-cons, times-on}
-use Rattle.hp_cpus.proofs.Together.{one-other}
+use Rattle.hp_buddy.specs.Cpus.{one_at}
+use Rattle.hp_buddy.proofs.CpuCounts.{one-self, times, times-cons, times-on}
+use Rattle.hp_buddy.proofs.Together.{one-other}
 use Rattle.hp_states.specs.Numbers.{number_code}
 use Rattle.hp_states.proofs.Loops.{one_more}
 
@@ -82,10 +82,7 @@ next_at f i (suc k) (xs ∷ lists) once e =
 
 covered_once : (f order x : ℕ) → one_at x f ≤ covered f order x
 covered_once f order x = elim (cases_eq x f) [
-  | inl same ↦
-      let self : covered f order x ≡ 1 =
-      subst (λ (y : ℕ). covered f order y ≡ 1) (sym same) (covered-self order f) in
-      omega (arith, self, one-self x f same)
+  | inl same ↦ rw same (omega (arith, covered-self order f, one-self f f refl))
   | inr apart ↦ omega (arith, one-other x f apart)
 ]
 

@@ -27,27 +27,32 @@ walk_ends g part ends ok =
     same_counted (ThroughInPart g part []) (EndsInPart g part) ends (λ s x h. h.1)
     (λ s x h. (inr (s, refl), h)) ok
 
+-- the counts are the same where the part's schedules stand alike
+pub alike : {g : Setting} (part : PartValue) {A B : List ℕ → Type 0} {ends : List Ending}
+    → AreCounted (λ s x. A s × EndsInPart g part s x) ends
+    → ((s : List ℕ) (x : OutcomeValue) → EndsInPart g part s x → A s → B s)
+    → ((s : List ℕ) (x : OutcomeValue) → EndsInPart g part s x → B s → A s)
+    → AreCounted (λ s x. B s × EndsInPart g part s x) ends
+alike {g = g} part {A = A} {B = B} ok to from =
+    same_counted (λ s x. A s × EndsInPart g part s x) (λ s x. B s × EndsInPart g part s x) _
+    (λ s x h. (to s x h.1 h.0, h.1)) (λ s x h. (from s x h.1 h.0, h.1)) ok
+
 module _ (g : Setting) (part : PartValue) (p : List ℕ) where
   -- from a place to its first continuation
   pub walk_down : (ends : List Ending)
       → AreCounted (BeforeInPart g part p) ends → AreCounted (BeforeInPart g part (p ++ 0 ∷ [])) ends
-  walk_down ends ok =
-      same_counted (BeforeInPart g part p) (BeforeInPart g part (p ++ 0 ∷ [])) ends
-      (λ s x h. (before_longer s p (0 ∷ []) h.0, h.1)) (λ s x h. (before_first s p h.0, h.1)) ok
+  walk_down ends ok = alike part ok (λ s x on. before_longer s p (0 ∷ [])) (λ s x on. before_first s p)
 
   -- past a continuation that was walked
   pub walk_past : (cpu : ℕ) (ends : List Ending) → AreCounted (ThroughInPart g part (p ++ cpu ∷ [])) ends
       → AreCounted (BeforeInPart g part (p ++ (cpu + 1) ∷ [])) ends
   walk_past cpu ends ok =
-      same_counted (ThroughInPart g part (p ++ cpu ∷ [])) (BeforeInPart g part (p ++ (cpu + 1) ∷ [])) ends
-      (λ s x h. (
-        elim h.0 [
-          | inl b ↦ before_later s p cpu (cpu + 1) (omega arith) b
-          | inr e ↦ extends_before s p cpu (cpu + 1) (omega arith) e
-        ],
-        h.1,
-      ))
-      (λ s x h. (before_next s p cpu h.0, h.1)) ok
+      alike part ok
+      (λ s x on a. elim a [
+        | inl b ↦ before_later s p cpu (cpu + 1) (omega arith) b
+        | inr e ↦ extends_before s p cpu (cpu + 1) (omega arith) e
+      ])
+      (λ s x on. before_next s p cpu)
 
   -- past a continuation that there is not
   pub walk_over : (news : List Record) (cpu : ℕ) (ends : List Ending)
@@ -55,13 +60,9 @@ module _ (g : Setting) (part : PartValue) (p : List ℕ) where
       → AreCounted (BeforeInPart g part (p ++ cpu ∷ [])) ends
       → AreCounted (BeforeInPart g part (p ++ (cpu + 1) ∷ [])) ends
   walk_over news cpu ends played over ok =
-      same_counted (BeforeInPart g part (p ++ cpu ∷ [])) (BeforeInPart g part (p ++ (cpu + 1) ∷ [])) ends
-      (λ s x h. (before_later s p cpu (cpu + 1) (omega arith) h.0, h.1))
-      (λ s x h. (
-        elim (before_next s p cpu h.0)
-            [ inl b ↦ b | inr e ↦ absurd (none_through g p news cpu s x played over e h.1.0) ],
-        h.1,
-      )) ok
+      alike part ok (λ s x on. before_later s p cpu (cpu + 1) (omega arith))
+      (λ s x on b. elim (before_next s p cpu b)
+      [ inl l ↦ l | inr e ↦ absurd (none_through g p news cpu s x played over e on.0) ])
 
   -- after the last continuation, where there was one
   pub walk_up : (news : List Record) (cpu : ℕ) (event : Event) (ends : List Ending)
@@ -69,16 +70,12 @@ module _ (g : Setting) (part : PartValue) (p : List ℕ) where
       → AreCounted (BeforeInPart g part (p ++ length g.scripts ∷ [])) ends
       → AreCounted (ThroughInPart g part p) ends
   walk_up news cpu event ends played asked ok =
-      same_counted (BeforeInPart g part (p ++ length g.scripts ∷ [])) (ThroughInPart g part p) ends
-      (λ s x h. (before_all s p (length g.scripts) h.0, h.1))
-      (λ s x h. (
-        elim h.0 [
-          | inl b ↦ before_longer s p (length g.scripts ∷ []) b
-          | inr e ↦ (let on = goes_on g p news cpu event s x played asked e h.1.0 in
-              extends_before s p on.0 (length g.scripts) on.1 on.2)
-        ],
-        h.1,
-      )) ok
+      alike part ok (λ s x on. before_all s p (length g.scripts))
+      (λ s x on a. elim a [
+        | inl b ↦ before_longer s p (length g.scripts ∷ []) b
+        | inr e ↦ (let next = goes_on g p news cpu event s x played asked e on.0 in
+            extends_before s p next.0 (length g.scripts) next.1 next.2)
+      ])
 
   -- where no script asks for anything those before the last continuation are those before the place
   pub walk_here : (news : List Record) (ends : List Ending)
@@ -86,17 +83,13 @@ module _ (g : Setting) (part : PartValue) (p : List ℕ) where
       → AreCounted (BeforeInPart g part (p ++ length g.scripts ∷ [])) ends
       → AreCounted (BeforeInPart g part p) ends
   walk_here news ends played over ok =
-      same_counted (BeforeInPart g part (p ++ length g.scripts ∷ [])) (BeforeInPart g part p) ends
-      (λ s x h. (
-        elim (before_all s p (length g.scripts) h.0) [
-          | inl b ↦ b
-          | inr e ↦ absurd
-              (not_before_longer p (length g.scripts ∷ [])
-              (rw (only_this g p news s x played over e h.1.0).0 at h.0))
-        ],
-        h.1,
-      ))
-      (λ s x h. (before_longer s p (length g.scripts ∷ []) h.0, h.1)) ok
+      alike part ok
+      (λ s x on b. elim (before_all s p (length g.scripts) b) [
+        | inl l ↦ l
+        | inr e ↦ absurd (not_before_longer p (length g.scripts ∷ [])
+            (rw (only_this g p news s x played over e on.0).0 at b))
+      ])
+      (λ s x on. before_longer s p (length g.scripts ∷ []))
 
   -- and one more, where it is the part's
   pub walk_notes : (news : List Record) (old new : List Ending)
@@ -123,15 +116,11 @@ module _ (g : Setting) (part : PartValue) (p : List ℕ) where
       → AreCounted (BeforeInPart g part (p ++ length g.scripts ∷ [])) ends
       → AreCounted (ThroughInPart g part p) ends
   walk_apart news ends played over apart ok =
-      same_counted (BeforeInPart g part p) (ThroughInPart g part p) ends (λ s x h. (inl h.0, h.1))
-      (λ s x h. (
-        elim h.0 [
-          | inl b ↦ b
-          | inr e ↦ absurd (apart (rw (only_this g p news s x played over e h.1.0).0 at h.1.1))
-        ],
-        h.1,
-      ))
-      (walk_here news ends played over ok)
+      alike part (walk_here news ends played over ok) (λ s x on. inl)
+      (λ s x on a. elim a [
+        | inl b ↦ b
+        | inr e ↦ absurd (apart (rw (only_this g p news s x played over e on.0).0 at on.1))
+      ])
 
   -- so there are more than those before a complete one
   pub walk_exceeds : (ends : List Ending) (limit : ℕ)

@@ -5,7 +5,7 @@ use Rattle.hp_states.specs.Codes.{IsCoded}
 use Rattle.hp_units.specs.History.{net_of, value_of}
 use Rattle.hp_units.specs.LayoutParts.{LayoutParts}
 use Rattle.hp_units.specs.declared.replies.Record.{Record}
-use Rattle.hp_renumbering.specs.Renumbered.{renumbered}
+use Rattle.hp_laws.specs.Renumbered.{renumbered}
 use Rattle.hp_schedules.specs.Openings.{AreOpen, NumberedOpening, Opening, after_cancel, after_work, renumbered_opening}
 use Rattle.hp_schedules.specs.Schedules.{Setting}
 use Rattle.hp_schedules.specs.declared.changes.Change.{Change}

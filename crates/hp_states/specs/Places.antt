@@ -3,7 +3,7 @@ use Rattle.std.specs.Prelude.{◌≡◌, List, [], ◌++◌, Some}
 use Rattle.hp_units.specs.History.{value_of}
 use Rattle.hp_units.specs.declared.replies.Record.{Record}
 use Rattle.hp_memory.specs.Memory.{MemoryValue}
-use Rattle.hp_steps.specs.Steps.{StepsValue}
+use Rattle.hp_memory.specs.Steps.{StepsValue}
 use Rattle.hp_schedules.specs.Cursors.{AreCursors}
 use Rattle.hp_schedules.specs.Schedules.{Setting, plays, schedule_of}
 use Rattle.hp_schedules.specs.declared.cursors.Cursor.{Cursor}

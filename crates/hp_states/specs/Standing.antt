@@ -3,7 +3,7 @@ use Rattle.std.specs.Prelude.{◌≡◌, ℕ, ◌+◌, ◌*◌, ◌<◌, List, [
 use Rattle.std.specs.List.{flat_map}
 use Rattle.hp_units.specs.Receipts.{receipts_of}
 use Rattle.hp_units.specs.declared.replies.Record.{Record}
-use Rattle.hp_renumbering.specs.Numberings.{number_of}
+use Rattle.hp_laws.specs.Numberings.{number_of}
 use Rattle.hp_states.specs.Exchanges.{AreExchanged, ExchangesValue, IsExchanged}
 use Rattle.hp_states.specs.Interned.{KeepNumbers}
 use Rattle.hp_states.specs.Numbers.{number_code}

@@ -5,7 +5,7 @@ use Rattle.hp_states.specs.Codes.{KeepCodes}
 use Rattle.hp_units.specs.declared.replies.Record.{Record}
 use Rattle.hp_states.specs.Interned.{KeepNumbers}
 use Rattle.hp_states.specs.Numbered.{IsNumbered, IsStateAt}
-use Rattle.hp_renumbering.specs.Renumbered.{IsOneToOne}
+use Rattle.hp_laws.specs.Renumbered.{IsOneToOne}
 use Rattle.hp_schedules.specs.Openings.{NumberedOpening, change_of}
 use Rattle.hp_schedules.specs.declared.changes.Change.TheVariants.{Ends}
 use Rattle.hp_schedules.specs.Schedules.{Setting}

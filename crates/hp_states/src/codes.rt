@@ -1,7 +1,7 @@
 //! The table of encoded states.
 ghost use Rattle.std.specs.Prelude.{◌≡◌, [], IfOk};
-ghost use Rattle.hp_renumbering.specs.Numberings.{number_of};
-ghost use Rattle.hp_renumbering.specs.Renumbered.{renumbered};
+ghost use Rattle.hp_laws.specs.Numberings.{number_of};
+ghost use Rattle.hp_laws.specs.Renumbered.{renumbered};
 ghost use Rattle.hp_states.specs.Codes.{IsCoded, KeepCodes};
 
 use crate::code::Code;
@@ -51,7 +51,7 @@ impl Codes {
     }
 
     /// Returns the number of the memory's state, and adds the state if it is not found. In the
-    /// stored state, operations have the numbers of [`number_of`](hp_renumbering::number_of). So if
+    /// stored state, operations have the numbers of [`number_of`](hp_laws::number_of). So if
     /// two states differ only in the numbers of operations that are in `latest` and above `fixed`,
     /// they nearly always share a number.
     ///

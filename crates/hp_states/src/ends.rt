@@ -2,9 +2,8 @@
 ghost use Rattle.std.specs.Prelude.{◌≡◌, IfOk, None};
 ghost use Rattle.hp_schedules.specs.Outcomes.{ended_row, ended_rows_below, outcome};
 
-use hp_memory::Memory;
+use hp_memory::{Memory, Steps};
 use hp_schedules::{Outcome, all_answers};
-use hp_steps::Steps;
 use hp_units::{Block, Claim, Row, State};
 use std::alloc::{AllocError, Global};
 

@@ -5,14 +5,14 @@ ghost use Rattle.hp_units.specs.Memory.{cached_list, free_list};
 ghost use Rattle.hp_units.specs.Pages.{words_at};
 ghost use Rattle.hp_units.specs.Placement.{IsShaped};
 ghost use Rattle.hp_states.specs.Codes.{state_code};
-ghost use Rattle.hp_renumbering.specs.Numberings.{number_of};
-ghost use Rattle.hp_renumbering.specs.Renumbered.{renumbered, renumbered_claim, renumbered_row};
+ghost use Rattle.hp_laws.specs.Numberings.{number_of};
+ghost use Rattle.hp_laws.specs.Renumbered.{renumbered, renumbered_claim, renumbered_row};
 ghost use Rattle.hp_states.specs.Numbers.{number_code, option_code};
 ghost use Rattle.hp_states.specs.Parts.{auto_number, claim_code, counted_code, kind_code, kind_number, row_code, wish_number, words_code};
 
 use crate::code::Code;
+use hp_laws::place_of;
 use hp_memory::Memory;
-use hp_renumbering::place_of;
 use hp_units::{
     Auto, Block, Claim, Class, Cpu, Frame, Kind, Mobility, Order, Owner, Page, Pageblock, Pool,
     Row, Serial, Wish,

@@ -1,8 +1,8 @@
 //! The codes of the places that a search keeps.
 ghost use Rattle.std.specs.Prelude.{◌≡◌, ◌++◌, [], IfOk, OnErr, OnOk, true};
 ghost use Rattle.hp_units.specs.Placement.{IsShaped};
-ghost use Rattle.hp_renumbering.specs.Numberings.{number_of};
-ghost use Rattle.hp_renumbering.specs.Renumbered.{renumbered};
+ghost use Rattle.hp_laws.specs.Numberings.{number_of};
+ghost use Rattle.hp_laws.specs.Renumbered.{renumbered};
 ghost use Rattle.hp_states.specs.Codes.{IsAmong, IsFoundOrAdded, place_code};
 ghost use Rattle.hp_states.specs.Parts.{counted_code};
 
@@ -47,7 +47,7 @@ impl PlaceCode {
 
     /// Writes the code of the place with these numbers and the memory's state, over the one written
     /// before. In the state, operations have the numbers of
-    /// [`number_of`](hp_renumbering::number_of).
+    /// [`number_of`](hp_laws::number_of).
     ///
     /// If memory runs out, the code is unspecified.
     pub fn write(

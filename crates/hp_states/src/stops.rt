@@ -6,7 +6,7 @@ ghost use Rattle.hp_units.specs.declared.replies.Record.{Record as NewRecord};
 ghost use Rattle.hp_schedules.specs.Alike.{leaves_steps};
 ghost use Rattle.hp_schedules.specs.Schedules.{Setting};
 ghost use Rattle.hp_states.specs.Places.{memory_at};
-ghost use Rattle.hp_renumbering.specs.Numberings.{number_of};
+ghost use Rattle.hp_laws.specs.Numberings.{number_of};
 ghost use Rattle.hp_schedules.specs.Openings.{renumbered_change};
 ghost use Rattle.hp_states.specs.Interned.{KeepNumbers};
 ghost use Rattle.hp_states.specs.Numbered.{IsNumbered, IsStateAt};
@@ -16,8 +16,8 @@ ghost use Rattle.hp_states.specs.Stops.{AreNumbersAt, AreSameStops, AreStopsAt, 
 use crate::Codes;
 use crate::code::Code;
 use crate::openings::Openings;
+use hp_laws::number_of;
 use hp_memory::Memory;
-use hp_renumbering::number_of;
 use hp_schedules::{Change, change_of};
 use hp_units::{Record, Serial};
 use std::alloc::{AllocError, Global};

@@ -1,17 +1,27 @@
-//! Reads all bytes of a stream, up to a limit, and writes all bytes to one.
+//! Streams: reads all bytes of one, up to a limit, writes all bytes to one, and talks by lines,
+//! with a reply to each line. All of it is proved for any `Source` and `Sink`, and `Counted` makes
+//! these of any reader or writer of the standard library.
 //!
-//! `read_all` reads a `Source` to its end, and `write_all` writes bytes to a `Sink`; both are
-//! proved for any source and sink. `Counted` makes a source or a sink of any reader or writer of
-//! the standard library. The crate owns the limit of an input and the faults of reading it. It
-//! opens no file and no stream, prints nothing, and depends on no other crate.
+//! The crate owns the limit of an input and of a line, the faults of reading, when replies are
+//! sent, and how a talk ends. It knows nothing of the lines' meaning: a `Talk` replies to each. It
+//! opens no file and no stream.
 //!
-//! Read src/streams.rt first: what a source and a sink must do.
+//! Read src/streams.rt first: what a source and a sink must do. Then specs/Talks.
 #![tactic(auto)]
 
+mod cuts;
+mod hearing;
+mod held;
 mod reading;
+mod replying;
+mod sending;
 mod streams;
+mod talking;
 mod writing;
 
+pub use held::LINE_LIMIT;
 pub use reading::{LIMIT, ReadFault, read_all};
+pub use replying::Talk;
 pub use streams::{Counted, Failed, Sink, Source};
+pub use talking::{TalkEnd, run_talk};
 pub use writing::write_all;

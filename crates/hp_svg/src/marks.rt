@@ -4,7 +4,7 @@ ghost use Rattle.hp_map.specs.Counts.{known_marks};
 ghost use Rattle.hp_svg.specs.Marks.{all_differ, fill_in};
 
 use hp_map::{MARKS, RowPicture};
-use hp_numbers::Text;
+use hp_units::Text;
 use indexmap::IndexSet;
 use std::alloc::{AllocError, Global};
 

@@ -11,7 +11,7 @@ use crate::rows::write_rows;
 use crate::sheets::{Sheet, legend_left, legend_top};
 use crate::shown::shown_rows;
 use hp_map::RowPicture;
-use hp_numbers::Text;
+use hp_units::Text;
 use indexmap::IndexSet;
 use std::alloc::{AllocError, Global};
 

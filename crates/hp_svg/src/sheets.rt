@@ -6,7 +6,7 @@ ghost use Rattle.std.specs.Prelude.{◌<◌, ◌≤◌, ◌^◌};
 
 use crate::elements::cells_of;
 use hp_map::{BlockPicture, RowPicture, frames_in};
-use hp_numbers::Frame;
+use hp_units::Frame;
 
 /// How many letters of what was asked fit in its column.
 pub(crate) const ASKED: usize = 29;

@@ -4,7 +4,7 @@ ghost use Rattle.std.specs.Option.{option_to_list};
 ghost use Rattle.hp_svg.specs.Shown.{AreShown, more_row, shown_of};
 
 use hp_map::{Rounds, RowPicture, join_rounds};
-use hp_numbers::Text;
+use hp_units::Text;
 use std::alloc::{AllocError, Global};
 
 /// Returns the rows that a picture shows: only the first of equal rounds of a plan's calls, and

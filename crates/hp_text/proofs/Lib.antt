@@ -1,3 +1,6 @@
 pub mod Joined
 mod Started
 pub mod Texts
+pub mod Aligned
+pub mod Counts
+pub mod WrittenBack

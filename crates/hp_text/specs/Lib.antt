@@ -9,3 +9,7 @@ pub mod Scenarios
 pub mod Separated
 pub mod Spelling
 pub mod State
+pub mod Laws
+pub mod Names
+pub mod Reads
+pub mod Zones

@@ -9,9 +9,9 @@ use Rattle.hp_units.specs.declared.events.Event.{Event}
 use Rattle.hp_units.specs.declared.replies.Receipt.{Receipt}
 use Rattle.hp_units.specs.declared.replies.Record.{Record}
 use Rattle.hp_judge.specs.declared.events.LogEvent.{LogEvent}
-use Rattle.hp_lawful.specs.Logs.{log_of, log_of_all, step_log}
-use Rattle.hp_lawful.proofs.Histories.{log-push}
-use Rattle.hp_lawful.proofs.Unchanged.{step_none}
+use Rattle.hp_judge.specs.Logs.{log_of, log_of_all, step_log}
+use Rattle.hp_judge.proofs.Histories.{log-push}
+use Rattle.hp_judge.proofs.Unchanged.{step_none}
 use Rattle.hp_machine.specs.Machine.{IsCalled, MachineValue, booted, sealed}
 use Rattle.hp_map.specs.declared.row_picture.Move.{Move}
 use Rattle.hp_trace.specs.Logs.{histories}

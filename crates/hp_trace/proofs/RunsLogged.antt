@@ -8,13 +8,13 @@ use Rattle.hp_units.specs.declared.plans.Item.{Item}
 use Rattle.hp_units.specs.declared.replies.Receipt.{Receipt}
 use Rattle.hp_requests.specs.declared.fault.ControlFault.{ControlFault}
 use Rattle.hp_judge.specs.declared.events.LogEvent.{LogEvent}
-use Rattle.hp_lawful.specs.Logs.{log_of_all, step_log}
+use Rattle.hp_judge.specs.Logs.{log_of_all, step_log}
 use Rattle.hp_machine.specs.Machine.{MachineValue, booted}
 use Rattle.hp_scenario.specs.Asked as asks
 use Rattle.hp_scenario.specs.Asked.{asked_by}
 use Rattle.hp_scenario.specs.Scenario.{ScenarioValue}
 use Rattle.hp_scenario.specs.declared.lines.Line.{Line}
-use Rattle.hp_step_logs.specs.Snapshots.{Shows, snapshot_of}
+use Rattle.hp_judge.specs.Snapshots.{Shows, snapshot_of}
 use Rattle.hp_trace.specs.Calls.{MakesPlan, MakesSeal, MakesSteps, MakesWork, file_rows}
 use Rattle.hp_trace.specs.Logs.{AreLinesDrawn, IsLogOfScenario, RunsLines, histories}
 use Rattle.hp_trace.specs.Rows.{Adds, AreDrawn, DrawsIf, IsRowLogged, Row, RowsValue, SaysAs, drawing, drawn_joined, noted, words}

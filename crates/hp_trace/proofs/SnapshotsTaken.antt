@@ -12,8 +12,8 @@ use Rattle.hp_pages.specs.Pages.{PagesValue}
 use Rattle.hp_pages.specs.Places.{holders}
 use Rattle.hp_laws.proofs.Lists.{take_next}
 use Rattle.hp_tape.specs.Deltas.{page_frames_of}
-use Rattle.hp_step_logs.specs.declared.holders.FrameHolder.{FrameHolder}
-use Rattle.hp_step_logs.specs.Snapshots.{holder_by, holder_of}
+use Rattle.hp_judge.specs.declared.holders.FrameHolder.{FrameHolder}
+use Rattle.hp_judge.specs.Snapshots.{holder_by, holder_of}
 
 -- ---- frames
 

@@ -12,7 +12,7 @@ use Rattle.hp_units.specs.declared.replies.Receipt.{Receipt}
 use Rattle.hp_units.specs.declared.replies.Reply.{Reply}
 use Rattle.hp_units.specs.declared.replies.Reply.TheVariants.{Moved}
 use Rattle.hp_requests.specs.declared.fault.ControlFault.{ControlFault}
-use Rattle.hp_control.specs.Reads.{file_text}
+use Rattle.hp_text.specs.Reads.{file_text}
 use Rattle.hp_machine.specs.Machine.{MachineValue, IsCalled, is_full, sealed}
 use Rattle.hp_scenario.specs.Asked as asks
 use Rattle.hp_map.specs.declared.row_picture.Move.{Move}

@@ -4,7 +4,7 @@ use Rattle.hp_units.specs.Arithmetic.{block_size}
 use Rattle.hp_units.specs.Boot.{boot_memory}
 use Rattle.hp_units.specs.declared.replies.Record.{Record}
 use Rattle.hp_judge.specs.declared.events.LogEvent.{LogEvent}
-use Rattle.hp_lawful.specs.Logs.{log_of_all}
+use Rattle.hp_judge.specs.Logs.{log_of_all}
 use Rattle.hp_machine.specs.Machine.{MachineValue, booted}
 use Rattle.hp_scenario.specs.Asked.{asked_by}
 use Rattle.hp_scenario.specs.Scenario.{ScenarioValue}

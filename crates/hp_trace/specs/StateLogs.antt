@@ -2,9 +2,9 @@
 use Rattle.std.specs.Prelude.{◌≡◌, List, [], ◌++◌, Option, Some, None}
 use Rattle.hp_units.specs.Memory.{Memory}
 use Rattle.hp_judge.specs.declared.events.LogEvent.{LogEvent}
-use Rattle.hp_lawful.specs.Logs.{step_log}
+use Rattle.hp_judge.specs.Logs.{step_log}
 use Rattle.hp_machine.specs.Machine.{MachineValue}
-use Rattle.hp_step_logs.specs.Snapshots.{Shows, SnapshotValue, snapshot_of}
+use Rattle.hp_judge.specs.Snapshots.{Shows, SnapshotValue, snapshot_of}
 
 -- the events so far, and a snapshot of the state that they lead to; before the first state there is
 -- no snapshot

@@ -1,17 +1,16 @@
 //! Does what a line asks for, and adds the line's rows to the trace.
 ghost use Rattle.std.specs.Prelude.{◌≡◌, ◌++◌, OnOk, string_bytes};
 ghost use Rattle.hp_scenario.specs.Asked.{asked_by};
-ghost use Rattle.hp_control.specs.Reads.{file_text};
+ghost use Rattle.hp_text.specs.Reads.{file_text};
 ghost use Rattle.hp_trace.specs.Calls.{MakesEvent, MakesSeal, MakesWork, file_rows, remark_text};
 ghost use Rattle.hp_trace.specs.Rows.{Adds, AreDrawn, noted};
 
 use crate::plans::{draw_receipt, trace_plan};
 use crate::rows::Rows;
-use hp_control::read_text;
 use hp_machine::Machine;
 use hp_requests::ControlFault;
 use hp_scenario::{Asked, Work};
-use hp_text::{write_echo_fault, write_read_fault, write_sealed, write_unrecorded};
+use hp_text::{read_text, write_echo_fault, write_read_fault, write_sealed, write_unrecorded};
 use hp_units::{CallFault, Cpu, Event};
 use std::alloc::{AllocError, Global};
 

@@ -3,10 +3,10 @@ ghost use Rattle.std.specs.Prelude.{◌≡◌, ◌≤◌, ◌<◌, IfOk, map};
 ghost use Rattle.hp_units.specs.Arithmetic.{all_frames, frame_count};
 ghost use Rattle.hp_units.specs.LayoutParts.{IsLayout};
 ghost use Rattle.hp_units.specs.Placement.{IsWellPlaced};
-ghost use Rattle.hp_step_logs.specs.Snapshots.{holder_of, snapshot_of};
+ghost use Rattle.hp_judge.specs.Snapshots.{holder_of, snapshot_of};
 
+use hp_judge::{FrameHolder, Snapshot};
 use hp_machine::Machine;
-use hp_step_logs::{FrameHolder, Snapshot};
 use hp_units::{Block, Claim, Frame, Row};
 use std::alloc::{AllocError, Global};
 

@@ -1,12 +1,11 @@
 //! The log of a memory whose states are seen one after another.
 ghost use Rattle.std.specs.Prelude.{◌≡◌, IfOk, OnOk};
-ghost use Rattle.hp_step_logs.specs.Snapshots.{Shows};
+ghost use Rattle.hp_judge.specs.Snapshots.{Shows};
 ghost use Rattle.hp_trace.specs.StateLogs.{IsLogged, IsStepFrom, no_log};
 
 use crate::snapshots::snapshot_of;
-use hp_judge::LogEvent;
+use hp_judge::{LogEvent, Snapshot, step_log};
 use hp_machine::Machine;
-use hp_step_logs::{Snapshot, step_log};
 use std::alloc::{AllocError, Global};
 use std::marker::Model;
 

@@ -3,7 +3,7 @@ use Rattle.std.proofs.Common.{◌≡◌, ℕ, ◌+◌, ◌*◌, ◌/◌, ◌%◌
 use Rattle.hp_units.specs.Memory.{class_index, class_numbered, pool_index}
 use Rattle.hp_units.specs.declared.rows.Class.{Class}
 use Rattle.hp_units.specs.declared.rows.Pool.{Pool}
-use Rattle.hp_trace_json.specs.Parts.{pool_numbered}
+use Rattle.hp_plain.specs.Placing.{pool_numbered}
 
 -- the number that a class and an order say
 pub free_key : (class : Class) (n : ℕ) → class ≡ class_numbered (n % 5) → 5 * (n / 5) + class_index class ≡ n

@@ -1,11 +1,9 @@
 -- The parts of a state that a trace shows, by their keys. Before the first row there is no state.
-use Rattle.std.specs.Prelude.{ℕ, zero, suc, Bool, true, false, List, [], Option, Some, None, slice_get, slice_index, slice_index_or, unwrap_or}
+use Rattle.std.specs.Prelude.{ℕ, Bool, true, false, List, [], Option, Some, None, slice_get, slice_index, slice_index_or, unwrap_or}
 use Rattle.hp_units.specs.declared.rows.Auto.{Auto}
 use Rattle.hp_units.specs.declared.rows.Kind.{Kind}
 use Rattle.hp_units.specs.declared.rows.Mobility.{Mobility}
 use Rattle.hp_units.specs.declared.rows.Mobility.TheVariants.{Movable, Unmovable}
-use Rattle.hp_units.specs.declared.rows.Pool.{Pool}
-use Rattle.hp_units.specs.declared.rows.Pool.TheVariants.{Nu, Nm, Mm}
 use Rattle.hp_units.specs.declared.rows.Row.{Row}
 use Rattle.hp_units.specs.Memory.{kernel_order}
 use Rattle.hp_units.specs.Pages.{frame_at, words_at}
@@ -47,12 +45,6 @@ free_list_at (Some p) number = slice_index_or p.memory.free.areas.lists number [
 abbrev pub cpu_list_at : Option Pictured → (number : ℕ) → List ℕ
 cpu_list_at None number = []
 cpu_list_at (Some p) number = slice_index_or p.memory.free.cached number []
-
--- the pool with this number
-abbrev pub pool_numbered : ℕ → Pool
-pool_numbered zero = Nu
-pool_numbered (suc zero) = Nm
-pool_numbered (suc (suc n)) = Mm
 
 -- the order of the kernel's block that starts at a frame
 abbrev pub kernel_in : Option Pictured → (frame : ℕ) → Option ℕ

@@ -2,11 +2,11 @@
 ghost use Rattle.std.specs.Prelude.{◌≡◌, ◌+◌, ◌*◌, IfOk, OnOk};
 ghost use Rattle.hp_units.specs.Memory.{class_index, pool_index};
 ghost use Rattle.hp_trace_json.specs.Changes.{CpuListsTold, FreeListsTold, SplicesCpu, SplicesFree};
-ghost use Rattle.hp_trace_json.specs.Parts.{cpu_list_at, free_list_at, pool_numbered};
+ghost use Rattle.hp_trace_json.specs.Parts.{cpu_list_at, free_list_at};
 ghost use Rattle.hp_trace_json.specs.Told.{AddsIf};
 
 use crate::splices::{Splice, splice_between};
-use hp_plain::Image;
+use hp_plain::{Image, pool_numbered};
 use hp_units::{Class, Cpu, Frame, Order, Pool};
 use std::alloc::{AllocError, Global};
 
@@ -144,16 +144,5 @@ fn cpu_list_in(state: &Option<Image>, cpu: Cpu, pool: Pool) -> &[Frame]
     match state {
         Some(image) => image.cpu_list(cpu, pool),
         None => &[],
-    }
-}
-
-/// Returns the pool with this number, from 0 to 2. A greater number gives the last pool.
-fn pool_numbered(number: u32) -> Pool
-    ensures { result ≡ pool_numbered number }
-{
-    match number {
-        0 => Pool::Nu,
-        1 => Pool::Nm,
-        _ => Pool::Mm,
     }
 }

@@ -1,10 +1,11 @@
 -- Parts without a fault are within their limits.
-use Rattle.std.proofs.Common.{◌≡◌, ℕ, ◌≤◌, ◌<◌, ◌*◌, ◌^◌, Bool, true, false, length, Option, Some, None, refl, arith, inl, inr}
-use Rattle.std.specs.Prelude.{not, ◌⊎◌, ◌&&◌, ◌||◌, ◌==◌, nat_le}
+use Rattle.std.proofs.Common.{◌≡◌, ℕ, ◌≤◌, ◌<◌, ◌*◌, ◌^◌, Bool, true, false, length, Option, Some, None, refl, arith, inl, inr, sym, ◌∙◌}
+use Rattle.std.specs.Prelude.{not, ◌&&◌, ◌||◌, ◌==◌, nat_le}
 use Rattle.std.specs.Bool.{then_some}
 use Rattle.std.specs.Option.{option_or}
 use Rattle.std.proofs.Math.Pow.{pow_mono}
-use Rattle.std.proofs.lemmas.Bool.{leb-true, eqb-true, and_parts, false≢true}
+use Rattle.std.proofs.lemmas.Bool.{leb-true, eqb-true, and_parts, false≢true, or_cases}
+use Rattle.hp_units.specs.declared.layouts.LayoutFault.{LayoutFault}
 use Rattle.hp_units.specs.declared.layouts.LayoutFault.TheVariants.{BadOrder, BadPageblocks, BadBlocks, TooManyFrames, BadCpus, BadMarks, BadOwners, BadPages, BadWords, BadLimit, BadBoot}
 use Rattle.hp_units.specs.LayoutParts.{LayoutParts, IsLayout, layout_fault, frame_fault, processor_fault, owner_fault, is_within, is_pageblock_count}
 
@@ -27,56 +28,20 @@ within : (low high n : ℕ) → is_within low high n ≡ true → (low ≤ n) ×
 within low high n e =
     let both = and_parts (nat_le low n) (nat_le n high) e in (leb-true low n both.0, leb-true n high both.1)
 
--- one of two tests holds
-one_of : (a b : Bool) → (a || b) ≡ true → (a ≡ true) ⊎ (b ≡ true)
-one_of true b e = inl refl
-one_of false b e = inr e
+-- a number is the power that is tested, or passes one of the other tests
+power : (n k : ℕ) (others : Bool) → k ≤ 6 → ((n == 2 ^ k) || others) ≡ true
+    → (others ≡ true → (k : ℕ) × (k ≤ 6) × (n ≡ 2 ^ k)) → (k : ℕ) × (k ≤ 6) × (n ≡ 2 ^ k)
+power n k others low some later = elim (or_cases (n == 2 ^ k) others some) [
+  | inl is ↦ (k, low, eqb-true n (2 ^ k) is)
+  | inr more ↦ later more
+]
 
 -- the exponent of a number of pageblocks
 exponent : (n : ℕ) → is_pageblock_count n ≡ true → (k : ℕ) × (k ≤ 6) × (n ≡ 2 ^ k)
-exponent n more =
-    elim (one_of (n == 1)
-    ((n == 2) || ((n == 4) || ((n == 8) || ((n == 16) || ((n == 32) || ((n == 64) || false)))))) more) [
-      | inl
-          is ↦ (
-            0,
-            omega
-                arith,
-            eqb-true n 1 is,
-          )
-      | inr more ↦ elim (one_of (n == 2)
-          ((n == 4) || ((n == 8) || ((n == 16) || ((n == 32) || ((n == 64) || false))))) more) [
-            | inl
-                is ↦ (1, omega arith, eqb-true n 2 is)
-            | inr
-                more ↦ elim (one_of (n == 4) ((n == 8) || ((n == 16) || ((n == 32) || ((n == 64) || false))))
-                more) [
-                  | inl is ↦ (2, omega arith, eqb-true n 4 is)
-                  | inr more ↦
-                      elim (one_of (n == 8) ((n == 16) || ((n == 32) || ((n == 64) || false))) more) [
-                        | inl is ↦ (3, omega arith, eqb-true n 8 is)
-                        | inr more ↦
-                            elim (one_of (n == 16) ((n == 32) || ((n == 64) || false)) more) [
-                              | inl is ↦ (
-                                4,
-                                omega
-                                    arith,
-                                eqb-true n 16 is,
-                              )
-                              | inr more ↦ elim (one_of (n == 32) ((n == 64) || false)
-                                  more) [
-                                    | inl is ↦ (5, omega arith, eqb-true n 32 is)
-                                    | inr
-                                        more ↦ elim (one_of (n == 64) false more) [
-                                          | inl is ↦ (6, omega arith, eqb-true n 64 is)
-                                          | inr more ↦ absurd (false≢true more)
-                                        ]
-                                  ]
-                            ]
-                      ]
-                ]
-          ]
-    ]
+exponent n some =
+    power n 0 _ (omega arith) some (λ s. power n 1 _ (omega arith) s (λ s. power n 2 _ (omega arith) s
+    (λ s. power n 3 _ (omega arith) s (λ s. power n 4 _ (omega arith) s (λ s. power n 5 _ (omega arith) s
+    (λ s. power n 6 _ (omega arith) s (λ s. absurd (false≢true s))))))))
 
 pub within_limits : (l : LayoutParts) → layout_fault l ≡ None → IsLayout l
 within_limits l none =
@@ -145,5 +110,6 @@ short_of l limits =
       words = omega (arith, limits.words);
     }
 
-pub short_within : (l : LayoutParts) → layout_fault l ≡ None → AreShort l
-short_within l none = short_of l (within_limits l none)
+pub short_within : {fault : Option LayoutFault} (l : LayoutParts) → fault ≡ layout_fault l → fault ≡ None
+    → AreShort l
+short_within l is none = short_of l (within_limits l (sym is ∙ none))

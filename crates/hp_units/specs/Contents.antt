@@ -2,7 +2,7 @@
 -- that a record hands out.
 use Rattle.std.specs.Prelude.{ℕ, List, Option, Some, None, fold, slice_set}
 use Rattle.std.specs.Option.{option_map}
-use Rattle.hp_numbers.specs.Numbers.{Frame}
+use Rattle.hp_units.specs.Numbers.{Frame}
 use Rattle.hp_units.specs.Names.{Event, Map, Unmap, Write, Reply, Done, GivesFrame, Moved, Record}
 use Rattle.hp_units.specs.LayoutParts.{LayoutParts}
 use Rattle.hp_units.specs.Memory.{Memory, entry_of, with_entry}

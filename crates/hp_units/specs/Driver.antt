@@ -3,7 +3,7 @@
 use Rattle.std.specs.Prelude.{◌≡◌, ℕ, ◌+◌, Bool, true, false, List, [], ◌∷◌, ◌++◌, Option, Some, None, nat_lt, count_by, fold, if◌then◌else◌}
 use Rattle.std.specs.List.{last_or}
 use Rattle.std.specs.Option.{option_map_or, option_and_then}
-use Rattle.hp_numbers.specs.Numbers.{Cpu, Serial}
+use Rattle.hp_units.specs.Numbers.{Cpu, Serial}
 use Rattle.hp_units.specs.Names.{Item, Event, Begin, DrainFor, Migrate, Commit, Cancel, Reply, Done, Moved, Opened, Restored, Released, Refused, Refusal, NoFrame, NoOp, NothingToMove, NotFree, Receipt, OpEnd, EndsDone, EndsRefused, EndsCancelled, EndsUndone, EndsLeft, CallFault}
 
 -- how many migrations were tried

@@ -2,10 +2,10 @@
 use Rattle.std.specs.Prelude.{ℕ, zero, suc, ◌+◌, ◌-◌, ◌^◌, Bool, not, List, [], ◌∷◌, ◌++◌, Option, Some, None, ◌==◌, filter, if◌then◌else◌}
 use Rattle.std.specs.List.{list_any}
 use Rattle.std.specs.Option.{option_map, option_and_then}
-use Rattle.hp_numbers.specs.Numbers.{Frame, Order}
+use Rattle.hp_units.specs.Numbers.{Frame, Order}
 use Rattle.hp_units.specs.Names.{Zone, NormalZone, Mobility, Unmovable, Movable, Class, Kind}
 use Rattle.hp_units.specs.LayoutParts.{LayoutParts}
-use Rattle.hp_numbers.specs.Numbers.{ancestor}
+use Rattle.hp_units.specs.Numbers.{ancestor}
 use Rattle.hp_units.specs.Arithmetic.{buddy, pageblock_of}
 use Rattle.hp_units.specs.Memory.{FreeAreas, free_list, with_free_list, kind_of, with_kind, usable_class, isolated_class}
 

@@ -2,7 +2,7 @@
 -- possible. A history is the list of records since a base state, oldest first; `before` is the
 -- number of all earlier records.
 use Rattle.std.specs.Prelude.{ℕ, ◌≡◌, ◌+◌, Bool, true, false, ◌||◌, if◌then◌else◌, List, [], ◌∷◌, ◌++◌, Option, Some, None, length, take, map, filter, count_by, fold, nat_lt, nat_le, slice_get}
-use Rattle.hp_numbers.specs.Numbers.{Cpu, Serial}
+use Rattle.hp_units.specs.Numbers.{Cpu, Serial}
 use Rattle.hp_units.specs.Names.{Event, Read, Cancel, UndoAfter, Reply, Restored, Undone, Refused, NoCpu, Gone, Record}
 use Rattle.hp_units.specs.LayoutParts.{LayoutParts}
 use Rattle.hp_units.specs.Memory.{Memory}

@@ -2,7 +2,7 @@
 -- of every well placed state (specs/Placement).
 use Rattle.std.specs.Prelude.{◌≡◌, ◌+◌, ◌*◌, ◌^◌, ◌≤◌, true, List, Option, None, length, slice_index_or, IfSome}
 use Rattle.std.specs.List.{AllByRecursion}
-use Rattle.hp_numbers.specs.Numbers.{Frame, Order, Cpu, Owner, Page}
+use Rattle.hp_units.specs.Numbers.{Frame, Order, Cpu, Owner, Page}
 use Rattle.hp_units.specs.Names.{Class, Pool}
 use Rattle.hp_units.specs.LayoutParts.{LayoutParts}
 use Rattle.hp_units.specs.Arithmetic.{IsFrame, frame_count, pageblock_count}

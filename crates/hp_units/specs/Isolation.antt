@@ -1,6 +1,6 @@
 -- Isolating whole pageblocks and putting them back, adding and removing them.
 use Rattle.std.specs.Prelude.{zero, suc, ◌+◌, ◌*◌, Bool, not, ◌++◌, filter, fold, ◌==◌}
-use Rattle.hp_numbers.specs.Numbers.{Order, Pageblock, Block}
+use Rattle.hp_units.specs.Numbers.{Order, Pageblock, Block}
 use Rattle.hp_units.specs.Names.{Zone, Movable, Class}
 use Rattle.hp_units.specs.LayoutParts.{LayoutParts}
 use Rattle.hp_units.specs.Arithmetic.{pageblock_size, pageblock_of, pageblocks_of, frames_of_pageblock}

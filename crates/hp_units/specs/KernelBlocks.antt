@@ -1,7 +1,7 @@
 -- Blocks for the kernel.
 use Rattle.std.specs.Prelude.{zero, suc, Option}
 use Rattle.std.specs.Option.{option_or}
-use Rattle.hp_numbers.specs.Numbers.{Order, Cpu}
+use Rattle.hp_units.specs.Numbers.{Order, Cpu}
 use Rattle.hp_units.specs.Names.{Nu, Unmovable}
 use Rattle.hp_units.specs.LayoutParts.{LayoutParts}
 use Rattle.hp_units.specs.Memory.{FreeFrames}

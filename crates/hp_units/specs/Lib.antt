@@ -22,3 +22,5 @@ pub mod Refusals
 pub mod Rows
 pub mod Step
 pub mod Texts
+pub mod NumberWords
+pub mod Numbers

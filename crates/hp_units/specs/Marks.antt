@@ -2,7 +2,7 @@
 -- one of its own drains and migrations.
 use Rattle.std.specs.Prelude.{ℕ, suc, ◌==◌, Bool, true, false, if◌then◌else◌, ◌&&◌, List, [], ◌∷◌, Option, Some, None}
 use Rattle.std.specs.Option.{option_map}
-use Rattle.hp_numbers.specs.Numbers.{Serial}
+use Rattle.hp_units.specs.Numbers.{Serial}
 use Rattle.hp_units.specs.Names.{Event, Begin, DrainFor, Migrate, Mark, Opens, Works, Other, Tag, Record}
 
 -- the mark of an event

@@ -2,7 +2,7 @@
 -- a number outside the layout, a reader returns nothing or the state of an offline block, and a
 -- writer changes nothing.
 use Rattle.std.specs.Prelude.{ℕ, zero, suc, ◌+◌, ◌*◌, false, List, [], Option, None, slice_index_or, slice_set}
-use Rattle.hp_numbers.specs.Numbers.{Frame, Order, Pageblock, Block, Cpu, Owner, Page}
+use Rattle.hp_units.specs.Numbers.{Frame, Order, Pageblock, Block, Cpu, Owner, Page}
 use Rattle.hp_units.specs.Names.{Zone, NormalZone, MovableZone, Mobility, Unmovable, Movable, Class, Nu, Nm, Mm, IsoN, IsoM, Pool, NuPool, NmPool, MmPool, OfflineState, Auto, Kind, Row}
 
 -- the free areas: the free blocks of each class and order, front first, and each pageblock's kind

@@ -2,7 +2,7 @@
 -- frame to which it moves.
 use Rattle.std.specs.Prelude.{Option, find, flat_map, is_some}
 use Rattle.std.specs.Option.{option_or}
-use Rattle.hp_numbers.specs.Numbers.{Frame, Serial}
+use Rattle.hp_units.specs.Numbers.{Frame, Serial}
 use Rattle.hp_units.specs.Names.{Nm, Mm, Movable}
 use Rattle.hp_units.specs.LayoutParts.{LayoutParts}
 use Rattle.hp_units.specs.Arithmetic.{frames_of_block}

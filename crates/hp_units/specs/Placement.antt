@@ -3,7 +3,7 @@
 use Rattle.std.specs.Prelude.{◌≡◌, ℕ, ◌+◌, ◌*◌, ◌/◌, ◌%◌, ◌^◌, ◌<◌, ◌≤◌, Bool, true, false, ◌&&◌, ◌||◌, List, [], ◌∷◌, Option, Some, None, ◌==◌, nat_lt, nat_le, length, count_by, sum_by, slice_index_or, IfSome, IsSome, if◌then◌else◌}
 use Rattle.std.specs.List.{AllByRecursion, enumerate_from}
 use Rattle.std.specs.Option.{option_map, option_map_or}
-use Rattle.hp_numbers.specs.Numbers.{Frame, Order, Pageblock, Block, Cpu, Owner, Page}
+use Rattle.hp_units.specs.Numbers.{Frame, Order, Pageblock, Block, Cpu, Owner, Page}
 use Rattle.hp_units.specs.Names.{Zone, NormalZone, Unmovable, Class, Pool, OfflineState, OnlineState, GoingState, AbsentState, State, Row, Claim, Kind}
 use Rattle.hp_units.specs.LayoutParts.{LayoutParts}
 use Rattle.hp_units.specs.Arithmetic.{buddy, frame_count, pageblock_count, pageblock_of, block_of, block_of_pageblock}

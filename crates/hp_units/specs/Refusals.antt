@@ -3,11 +3,11 @@ use Rattle.std.specs.Prelude.{ℕ, ◌+◌, ◌*◌, ◌/◌, ◌%◌, Bool, not
 use Rattle.std.specs.List.{list_any, list_all, range_with_len}
 use Rattle.std.specs.Bool.{then_some}
 use Rattle.std.specs.Option.{option_map}
-use Rattle.hp_numbers.specs.Numbers.{Frame, Order, Block, Cpu, Owner, Page, Serial}
+use Rattle.hp_units.specs.Numbers.{Frame, Order, Block, Cpu, Owner, Page, Serial}
 use Rattle.hp_units.specs.Names.{Item, Event, KernelAlloc, KernelFree, Map, Unmap, Write, Read, Drain, Online, Begin, DrainFor, Migrate, Commit, Cancel, UndoAfter, Probe, Remove, SetAuto, Refusal, NoOwner, NoPage, NoWord, AlreadyMapped, NotMapped, BadOrder, NoFrame, NoSuchFrame, NotKernel, NoCpu, NoBlock, EmptyPlan, Twice, Busy, NotOnline, NotOffline, HoldsUnmovable, NoOp, NothingToMove, NotFree, BadAddress, NotAbsent, Nu, Nm, Mm, IsoN, IsoM}
 use Rattle.hp_units.specs.Choices.{first_some, unless_some}
 use Rattle.hp_units.specs.LayoutParts.{LayoutParts}
-use Rattle.hp_numbers.specs.Numbers.{ancestor}
+use Rattle.hp_units.specs.Numbers.{ancestor}
 use Rattle.hp_units.specs.Arithmetic.{block_bytes, frame_count, frames_of_block, pageblock_size, pageblocks_of}
 use Rattle.hp_units.specs.Memory.{FreeAreas, Memory, free_list, isolated_class, kernel_order, row_of}
 use Rattle.hp_units.specs.FreeAreas.{is_on}

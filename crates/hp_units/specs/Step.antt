@@ -1,7 +1,7 @@
 -- One step of the machine: the state after an event, and the reply.
 use Rattle.std.specs.Prelude.{zero, suc, ◌/◌, Option, Some, None}
 use Rattle.std.specs.Option.{option_map_or}
-use Rattle.hp_numbers.specs.Numbers.{Frame, Order, Block, Cpu, Owner, Page, Serial}
+use Rattle.hp_units.specs.Numbers.{Frame, Order, Block, Cpu, Owner, Page, Serial}
 use Rattle.hp_units.specs.Names.{NormalZone, MovableZone, AbsentState, Auto, OfflineAuto, OnlineAuto, KernelAuto, MovableAuto, Event, KernelAlloc, KernelFree, Map, Unmap, Write, Read, Drain, Online, Begin, DrainFor, Migrate, Commit, Cancel, UndoAfter, Probe, Remove, SetAuto, Refusal, Reply, Done, GivesFrame, Word, Moved, Opened, Released, Refused}
 use Rattle.hp_units.specs.LayoutParts.{LayoutParts}
 use Rattle.hp_units.specs.Arithmetic.{block_bytes}

@@ -5,7 +5,7 @@ ghost use Rattle.hp_units.specs.declared.marks.Mark.TheVariants.{Opens};
 
 use crate::plans::Plan;
 use crate::rows::{Auto, Zone};
-use hp_numbers::{Block, Cpu, Frame, Order, Owner, Page, Serial};
+use crate::{Block, Cpu, Frame, Order, Owner, Page, Serial};
 use std::alloc::{AllocError, Global};
 
 /// An event: one request of one processor.

@@ -5,7 +5,7 @@ ghost use Rattle.hp_units.specs.LayoutParts.{IsLayout, frame_fault, is_pageblock
 ghost use Rattle.hp_units.specs.PartsSeen.{IsLayoutFault, parts_seen};
 
 use crate::rows::Boot;
-use hp_numbers::{Block, Frame, Order, Pageblock};
+use crate::{Block, Frame, Order, Pageblock};
 use std::alloc::{AllocError, Global};
 use std::marker::Model;
 

@@ -3,9 +3,9 @@ ghost use Rattle.std.specs.Prelude.{◌≡◌, ◌&&◌, not};
 ghost use Rattle.hp_units.specs.History.{is_look, is_refused};
 ghost use Rattle.hp_units.specs.Marks.{is_opening, is_work_of, mark_of};
 
+use crate::Serial;
 use crate::events::Event;
 use crate::replies::Reply;
-use hp_numbers::Serial;
 
 /// How a step relates to operations.
 #[derive(Clone, Copy, PartialEq, Eq, Drop)]

@@ -1,8 +1,8 @@
 //! Plans, and the words of a page. In contracts, the value of each is a list.
 ghost use Rattle.std.specs.Prelude.{◌≡◌, ◌↔◌, ◌<◌, None, IfOk, IsOk, IsTrue, length, slice_set};
 
+use crate::Block;
 use crate::rows::Wish;
-use hp_numbers::Block;
 use std::alloc::{AllocError, Global};
 use std::marker::Model;
 

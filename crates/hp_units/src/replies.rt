@@ -2,7 +2,7 @@
 ghost use Rattle.std.specs.Prelude.{◌≡◌, ◌↔◌, IsTrue};
 
 use crate::events::Event;
-use hp_numbers::{Block, Cpu, Frame, Serial};
+use crate::{Block, Cpu, Frame, Serial};
 
 /// Why an event was refused: the first check that fails, in the event's order of checks. A refusal
 /// is recorded and changes no state.

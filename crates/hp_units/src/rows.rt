@@ -5,7 +5,7 @@ ghost use Rattle.hp_units.specs.Memory.{class_index, class_numbered, class_of_po
 ghost use Rattle.hp_units.specs.Rows.{claimed_row, is_absent, is_claimed, is_claimed_by, is_going, is_off, is_offline, is_online, state_number, zone_number};
 ghost use Rattle.hp_units.specs.declared.rows.State.TheVariants.{Online as OnlineState};
 
-use hp_numbers::Serial;
+use crate::Serial;
 
 /// The zone of an online memory block (Linux guide, Memory Hot(Un)Plug; Gorman, chapter 2).
 #[derive(Clone, Copy, PartialEq, Eq, Drop)]

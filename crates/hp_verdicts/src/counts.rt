@@ -2,7 +2,7 @@
 ghost use Rattle.std.specs.Prelude.{◌<◌};
 
 use hp_judge::{LogEvent, MachineSize};
-use hp_numbers::Order;
+use hp_units::Order;
 use std::alloc::{AllocError, Global};
 
 /// How many events of each kind a log has.

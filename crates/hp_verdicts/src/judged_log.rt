@@ -7,7 +7,7 @@ use crate::options::JudgeOptions;
 use crate::selection::BlockRange;
 use crate::verdict::Verdict;
 use hp_judge::{LogEvent, MachineSize, Phase};
-use hp_numbers::Block;
+use hp_units::Block;
 use std::alloc::{AllocError, Global};
 
 /// The verdict on a log, with its counts.

@@ -5,8 +5,8 @@ use crate::counts::BlockCounts;
 use crate::judged_log::JudgedLog;
 use crate::words::{MALFORMED, broken, is_of_frame, kind_name};
 use hp_judge::{Fault, MachineSize, NumberedFault, Violation};
-use hp_numbers::Frame;
 use hp_text::{Brackets, write_escaped};
+use hp_units::Frame;
 use std::alloc::{AllocError, Global};
 
 /// Returns the report on a log. `first` is the log's line with the first fault that is not allowed.

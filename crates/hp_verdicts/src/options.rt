@@ -5,7 +5,7 @@ ghost use Rattle.hp_verdicts.specs.Sizes.{AreFrames, HasNoSize, IsSizeFault, IsS
 use crate::allowed::AllowedKinds;
 use crate::selection::BlockRange;
 use hp_judge::{MachineSize, piece_size};
-use hp_numbers::Order;
+use hp_units::Order;
 
 /// A log is judged for a machine of 2 to this power frames, or of more if blocks past them are
 /// asked for. 2^26 frames of 4 KiB are 256 GiB, for which a judge takes 1 GiB.

@@ -5,7 +5,7 @@ ghost use Rattle.hp_judge.specs.declared.events.LogEvent.TheVariants.{Move, Othe
 ghost use Rattle.hp_verdicts.specs.Parts.{IsPartOf, contains};
 
 use hp_judge::{LogEvent, MachineSize};
-use hp_numbers::{Block, Frame, Order};
+use hp_units::{Block, Frame, Order};
 
 /// The memory blocks from `first` up to `end`, which is not in the range.
 #[derive(Clone, Copy, Drop)]

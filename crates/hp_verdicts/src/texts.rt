@@ -5,8 +5,8 @@ use crate::counts::BlockCounts;
 use crate::judged_log::JudgedLog;
 use crate::words::{MALFORMED, broken, is_of_frame, kind_name};
 use hp_judge::{Fault, MachineSize, NumberedFault, Violation};
-use hp_numbers::Frame;
 use hp_text::{Brackets, write_start};
+use hp_units::Frame;
 use std::alloc::{AllocError, Global};
 
 /// At most this many characters of a log's line are shown.

@@ -9,7 +9,7 @@ ghost use Rattle.hp_verdicts.specs.Reports.{IsVerdictOn, allowed_none};
 use crate::allowed::AllowedKinds;
 use crate::faults::FaultReport;
 use hp_judge::{Judge, LogEvent, MachineSize, NumberedFault, Phase};
-use hp_numbers::{Block, Frame};
+use hp_units::{Block, Frame};
 use std::alloc::{AllocError, Global};
 use std::marker::Model;
 

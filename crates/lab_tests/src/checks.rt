@@ -291,14 +291,10 @@ fn counts(alloc: Global, place: usize, faults: usize, is_whole: bool) -> Result<
     Ok(fault_count(&found) == faults && are_warnings(&found) == is_whole)
 }
 
-/// Returns whether faults are counted, in a text with faults and in one with only warnings.
-fn are_counted(alloc: Global) -> Result<bool, AllocError> {
-    Ok(counts(alloc, 5, 6, false)? && counts(alloc, 7, 0, true)?)
-}
-
 #[test]
 fn faults_are_counted(rt: HostRuntime) -> Result<(), Fail> {
-    assert!(rt; are_counted(rt.alloc())?);
+    assert!(rt; counts(rt.alloc(), 5, 6, false)?);
+    assert!(rt; counts(rt.alloc(), 7, 0, true)?);
     assert!(rt; Key::High.name() == "high");
     Ok(())
 }

@@ -2,7 +2,7 @@
 //! making a call.
 use super::explorations::scenario;
 use hp_scenario::Scenario;
-use hp_starts::{front_of, interleavings_line, start_of};
+use hp_scripts::{front_of, interleavings_line, start_of};
 use std::alloc::{AllocError, Global};
 use std::test::Fail;
 

@@ -1,9 +1,9 @@
 //! Tests of scenarios with names for results, and of the scenarios with numbers that they become.
 use super::explorations::scenario;
-use hp_names::{
+use hp_scenario::ScenarioFault;
+use hp_scripts::{
     Bindings, NameFault, NamedScenario, PlainLine, name_fault, plain_line, resolve_front,
 };
-use hp_scenario::ScenarioFault;
 use hp_text::write_scenario;
 use std::alloc::{AllocError, Global};
 use std::test::Fail;

@@ -2,7 +2,7 @@
 //! that name operation 0 before their processor has begun one.
 use super::replays::LAST;
 use hp_scenario::{Line, Scenario};
-use hp_starts::{Unbegun, unbegun_lines};
+use hp_scripts::{Unbegun, unbegun_lines};
 use hp_text::{write_calls, write_line, write_mark, write_scenario};
 use hp_units::{Cpu, Event, Record, Reply, Serial, Text};
 use indexmap::IndexSet;

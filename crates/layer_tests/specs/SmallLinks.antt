@@ -1,6 +1,6 @@
 -- The lists that the tests link.
 use Rattle.std.specs.Prelude.{[], ◌∷◌}
-use Rattle.hp_links.specs.LinkedLists.{LinkedLists}
+use Rattle.hp_buddy.specs.LinkedLists.{LinkedLists}
 
 -- two lists over four frames: the first holds frames 3, 2 and 0, and the second is empty
 abbrev pub three_listed : LinkedLists

@@ -4,7 +4,7 @@ ghost use Rattle.hp_tape.specs.Tapes.{HasRoom};
 ghost use Rattle.layer_tests.specs.SmallLayouts.{two_blocks};
 
 use crate::layouts::two_blocks;
-use hp_blocks::Blocks;
+use hp_pages::Blocks;
 use hp_tape::{Delta, Tape};
 use hp_units::{Auto, Block, Row, Serial, State, Wish, Zone};
 use std::alloc::Global;

@@ -1,7 +1,7 @@
 ghost use Rattle.std.specs.Prelude.{◌≡◌, IfOk, None, replicate};
 ghost use Rattle.hp_tape.specs.Tapes.{HasRoom};
 
-use hp_kernel::{KernelBlocks, short_order};
+use hp_pages::{KernelBlocks, short_order};
 use hp_tape::{Delta, Tape};
 use hp_units::{Frame, Order};
 use std::alloc::Global;

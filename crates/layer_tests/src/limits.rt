@@ -3,8 +3,7 @@
 ghost use Rattle.std.specs.Prelude.{◌≡◌, IfOk};
 
 use crate::layouts::BOOT;
-use hp_buddy::Buddy;
-use hp_cpus::Cpus;
+use hp_buddy::{Buddy, Cpus};
 use hp_units::{Class, Cpu, Layout, LayoutFault, Order, Parts, Pool};
 use std::alloc::Global;
 use std::test::Fail;

@@ -1,7 +1,7 @@
 ghost use Rattle.std.specs.Prelude.{◌≡◌, ◌<◌, IfOk};
 ghost use Rattle.layer_tests.specs.SmallLinks.{three_listed};
 
-use hp_links::{Links, ListNumber};
+use hp_buddy::{Links, ListNumber};
 use hp_units::Frame;
 use std::alloc::{AllocError, Global};
 use std::test::Fail;

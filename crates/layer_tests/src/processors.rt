@@ -1,13 +1,12 @@
 ghost use Rattle.std.specs.Prelude.{◌≡◌, IfOk, IfSome};
 ghost use Rattle.hp_units.specs.Boot.{empty_cached};
 ghost use Rattle.hp_tape.specs.Tapes.{HasRoom};
-ghost use Rattle.hp_cpus.specs.Cpus.{AreTogether, MayBePut};
+ghost use Rattle.hp_buddy.specs.Cpus.{AreTogether, MayBePut};
 ghost use Rattle.layer_tests.specs.SmallLayouts.{two_blocks};
 
 use crate::areas::one_free_pageblock;
 use crate::layouts::two_blocks;
-use hp_buddy::Buddy;
-use hp_cpus::Cpus;
+use hp_buddy::{Buddy, Cpus};
 use hp_tape::{Delta, ListId, Tape};
 use hp_units::{Cpu, Frame, Pool, Zone};
 use std::alloc::Global;

@@ -1,10 +1,8 @@
 //! Events written as lines of JSON and read back.
 
-use hp_judge::LogEvent;
+use hp_judge::{LogEvent, write_event, write_size};
 use hp_logs::json_event;
-use hp_numbers::{Block, Frame, Order};
-use hp_step_logs::{write_event, write_size};
-use hp_units::Zone;
+use hp_units::{Block, Frame, Order, Zone};
 use json::Scratch;
 use std::alloc::{AllocError, Global};
 use std::test::Fail;

@@ -1,9 +1,9 @@
 //! What each control file shows, and paths and bytes that no line of a scenario can contain. Those
 //! that a line can contain are refused in runs/paths.txt.
 use crate::looks::{Look, finds_in_four_blocks};
-use hp_control::{buddyinfo, read_file, read_text};
 use hp_machine::Machine;
 use hp_requests::{ControlFault, parse_write};
+use hp_text::{buddyinfo, read_file, read_text};
 use layouts_for_tests::LAST_ABSENT;
 use std::alloc::{AllocError, Global};
 

@@ -2,9 +2,8 @@
 use crate::calls::make_call;
 use crate::same::expect_same_machines;
 use hp_history::{Course, Volume};
-use hp_machine::Machine;
+use hp_machine::{Machine, audit_chain, replay, replay_from};
 use hp_plain::Image;
-use hp_replays::{audit_chain, replay, replay_from};
 use hp_scenario::{Line, Scenario, Work};
 use hp_units::Layout;
 use refused_values::{Case, Outcome, Trouble, expect};

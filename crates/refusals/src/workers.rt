@@ -9,9 +9,10 @@ use hp_history::Volume;
 use hp_machine::Machine;
 use hp_requests::ControlFault;
 use hp_scenario::Script;
-use hp_shared::{CloseFault, Job, Seat, Shared, close};
+use hp_shared::{
+    CloseFault, Ends, Job, LineEnd, OpenGate, RunEnd, Seat, Shared, close, run_workers,
+};
 use hp_units::{CallFault, OpEnd, Reply};
-use hp_workers::{Ends, LineEnd, OpenGate, RunEnd, run_workers};
 use refused_values::{Outcome, Trouble, expect};
 use std::alloc::Global;
 use std::marker::Brand;

@@ -3,8 +3,7 @@
 //! up.
 use crate::trouble::{Case, Outcome};
 use crate::values::layout_with;
-use hp_buddy::Buddy;
-use hp_cpus::Cpus;
+use hp_buddy::{Buddy, Cpus};
 
 /// Makes the free areas of a layout with this greatest order.
 pub fn free_areas(case: &Case<'_>, order: u64) -> Outcome {

@@ -1,5 +1,5 @@
 //! Why a case stopped, and how many calls ran out of memory.
-use hp_replays::{ChainFault, ReplayFault};
+use hp_machine::{ChainFault, ReplayFault};
 use hp_requests::ControlFault;
 use hp_scenario::ScenarioFault;
 use hp_units::{CallFault, Serial};

@@ -2,12 +2,9 @@
 ghost use Rattle.std.specs.Prelude.{◌≡◌, ◌<◌, IfOk, length};
 
 use crate::trouble::{Outcome, Trouble, expect};
-use hp_blocks::Blocks;
-use hp_buddy::Buddy;
-use hp_cpus::Cpus;
-use hp_links::Links;
+use hp_buddy::{Buddy, Cpus, Links};
 use hp_machine::Machine;
-use hp_pages::Pages;
+use hp_pages::{Blocks, Pages};
 use hp_plain::Image;
 use hp_tape::{Delta, Tape};
 use hp_units::{

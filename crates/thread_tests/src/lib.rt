@@ -2,8 +2,8 @@
 //! Also tests of searches, in one or several threads, and of the commands, on streams that move
 //! bytes in pieces or fail.
 //!
-//! Each module tests a crate or two from outside. `seats`, `closes` and `locks` test hp_shared;
-//! `workers` tests hp_workers, with a gate of its own; `explorations` tests hp_schedules and
+//! Each module tests a crate or two from outside. `seats`, `closes` and `locks` test hp_shared,
+//! and so does `workers`, with a gate of its own; `explorations` tests hp_schedules and
 //! hp_explore. `runs`, `pieces` and `ends` test hp_commands, the first two on the streams of
 //! `streams`. runs/check_runs.py compares what the commands write for many scenarios.
 //!

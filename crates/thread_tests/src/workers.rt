@@ -10,12 +10,11 @@ use gates::{InOrder, Point};
 use hp_machine::Machine;
 use hp_plain::Image;
 use hp_scenario::{Scenario, Script};
-use hp_shared::{Job, Shared, close};
+use hp_shared::{Ends, Gate, Job, LineEnd, RunEnd, Shared, close, run_workers};
 use hp_units::{
     Block, Class, Cpu, Event, Frame, Item, OpEnd, Order, Owner, Page, Plan, Pool, Reply, Row,
     State, Wish,
 };
-use hp_workers::{Ends, Gate, LineEnd, RunEnd, run_workers};
 use std::alloc::{AllocError, Global};
 use std::marker::Brand;
 use std::sync::Wait;

@@ -1,6 +1,6 @@
 //! Joins a block that comes back with its buddies.
 ghost use Rattle.std.specs.Prelude.{◌≡◌, ℕ, true, ◌-◌, ◌<◌, ◌≤◌};
-ghost use Rattle.hp_numbers.specs.Numbers.{ancestor};
+ghost use Rattle.hp_units.specs.Numbers.{ancestor};
 ghost use Rattle.hp_units.specs.Arithmetic.{buddy, frame_count};
 ghost use Rattle.hp_units.specs.FreeAreas.{class_of, is_on, without_buddies};
 ghost use Rattle.hp_units.specs.LayoutParts.{IsLayout};

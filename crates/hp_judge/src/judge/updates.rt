@@ -6,8 +6,7 @@ ghost use Rattle.hp_judge.specs.Tables.{LiesBelow, StepsAt};
 use super::Judge;
 use crate::events::{LogEvent, piece_size};
 use crate::frames::FrameState;
-use hp_numbers::{Block, Frame, Order};
-use hp_units::Zone;
+use hp_units::{Block, Frame, Order, Zone};
 
 impl Judge {
     /// Updates the tables with an event of this machine, lawful or not.

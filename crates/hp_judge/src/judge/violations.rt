@@ -8,7 +8,7 @@ use super::Judge;
 use crate::blocks::Phase;
 use crate::events::{LogEvent, piece_size};
 use crate::faults::{Law, Violation};
-use hp_numbers::{Block, Frame, Order};
+use hp_units::{Block, Frame, Order};
 
 impl Judge {
     /// Returns the first law that an event breaks.

@@ -6,10 +6,8 @@ ghost use Rattle.hp_tape.specs.Deltas.{page_frames_of};
 ghost use Rattle.hp_pages.specs.Pages.{AreSettled};
 
 use crate::memory::Memory;
-use hp_blocks::Blocks;
-use hp_buddy::Buddy;
-use hp_cpus::Cpus;
-use hp_pages::Pages;
+use hp_buddy::{Buddy, Cpus};
+use hp_pages::{Blocks, Pages};
 use hp_units::{Auto, Block, Class, Frame, Kind, Order, Owner, Page, Pageblock, Row};
 
 impl Memory {

@@ -1,11 +1,11 @@
 //! Tests whether a state is well placed.
 ghost use Rattle.std.specs.Prelude.{◌≡◌, IfOk, MatchBool, ℕ};
 ghost use Rattle.hp_units.specs.Placement.{IsWellPlaced};
-ghost use Rattle.hp_placement.specs.Placing.{ArePlacedOnce, mark_of, unplugged};
+ghost use Rattle.hp_plain.specs.Placing.{ArePlacedOnce, mark_of, unplugged};
 
 use super::Image;
 use crate::placement::{are_joined, place_cached, place_free, place_pages};
-use hp_placement::{Marks, are_kinds, are_rows, place_kernel};
+use crate::{Marks, are_kinds, are_rows, place_kernel};
 use std::alloc::{AllocError, Global};
 
 impl Image {

@@ -1,7 +1,7 @@
 //! A gate that lets workers pass points in one order. A wait gives up after a limit of turns, and
 //! the gate then records that.
+use hp_shared::Gate;
 use hp_units::Cpu;
-use hp_workers::Gate;
 use std::sync::atomic::{AtomicBool, AtomicU64, Ordering};
 use std::thread;
 

@@ -1,7 +1,7 @@
 -- What holds of the text that was read holds of all that the reader had.
 use Rattle.std.proofs.Common.{◌≡◌, List, ℕ, subst}
 use Rattle.std.proofs.lemmas.Result.{IfErr-weaker, IfOk-weaker, err_from_is_err_and}
-use Rattle.hp_names.specs.Named.{named_in}
+use Rattle.hp_scripts.specs.Named.{named_in}
 use Rattle.hp_streams.proofs.Whole.{given}
 use Rattle.hp_lab_shell.specs.Needs.{unbegun_of}
 use Rattle.hotplug_lab.specs.Words.{ServesText}

@@ -1,5 +1,5 @@
 -- A frame that is in use is in that place alone.
-use Rattle.hp_lemmas.proofs.Placed.{kernel-in_use, page-in_use}
+use Rattle.hp_units.proofs.Placed.{kernel-in_use, page-in_use}
 use Rattle.hp_buddy.proofs.Placed.{in_use-given}
 use Rattle.hp_buddy.proofs.laws.blocks_in_use_may_be_given.Goals as goal
 

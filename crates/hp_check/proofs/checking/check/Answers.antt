@@ -1,5 +1,5 @@
 use Rattle.std.proofs.lemmas.Result.{IfOk-weaker}
-use Rattle.hp_names.specs.Seen.{named_seen}
+use Rattle.hp_scripts.specs.Seen.{named_seen}
 use Rattle.hp_check.proofs.Agreement.{faults_agree, faults_have_causes, warnings_agree, warnings_have_causes}
 use Rattle.hp_check.proofs.checking.check.Goals as goal
 

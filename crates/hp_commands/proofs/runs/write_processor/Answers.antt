@@ -3,7 +3,7 @@ use Rattle.std.specs.List.{flat_map}
 use Rattle.std.proofs.lemmas.Grind.{flat_map-append}
 use Rattle.std.proofs.lemmas.List.{take_more}
 use Rattle.std.proofs.lemmas.List.Concat.{flat_map-cons}
-use Rattle.hp_workers.specs.declared.lines.LineEnd.{LineEnd}
+use Rattle.hp_shared.specs.declared.lines.LineEnd.{LineEnd}
 use Rattle.hp_commands.specs.Runs.{line_end_text}
 use Rattle.hp_commands.proofs.runs.write_processor.Goals as goal
 

@@ -8,14 +8,8 @@ use Rattle.hp_explain.proofs.answer_lines.read_words.Goals as goal
 
 pub loop-cpu-preserved : goal.loop-cpu-preserved
 loop-cpu-preserved c =
-    let read
-    = subst
-    (λ (z : List (Bor (List ℕ))). IsScriptAt (map (λ (x : Bor (List ℕ)). x.now) z) c.loop-cpu.cpu
-    c.line_count-count.result c.in_ok-script.script) (take_rest c.args.lines.now c.loop-cpu.place)
-    c.in_ok-script.ensures in
-    let pushed
-    = c.push_reserved.ensures.items
-    ∙ ap (λ (z : List (List ObservedLine)). z ++ c.in_ok-script.script ∷ []) c.reserve.ensures.items in
+    let read = rw (take_rest c.args.lines.now c.loop-cpu.place) at c.in_ok-script.ensures in
+    let pushed = rw c.reserve.ensures.items at c.push_reserved.ensures.items in
     script_more c.args.lines.now c.args.scripts.now c.loop-cpu.cpu c.loop-cpu.place c.line_count-count.result
     c.loop-cpu.seen.items c.push_reserved.new.self.items c.in_ok-script.script c.index-scripts-cpu.result
     (omega arith) c.index-scripts-cpu.is c.line_count-count.ensures read pushed c.loop-cpu.invariant

@@ -12,8 +12,7 @@ same_words : (text words line written left right old : List ℕ) → line ≡ te
     → bytes_eq left right ≡ true → text ≡ words
 same_words text words line written left right old first second none here there same =
     append_cancel_right text words newline
-    (sym first ∙ (sym here ∙ ((bytes_eq-Decides left right).0 same ∙ (there ∙ (second
-    ∙ ap (λ z. z ++ (words ++ newline)) none)))))
+    (rw (← first, ← here, (bytes_eq-Decides left right).0 same, there, second, none))
 
 pub returns : goal.returns
 returns c =

@@ -9,5 +9,4 @@ pub returns : goal.returns
 returns c =
     fact_from_extend (λ w. w.now) c.extend.result c.extend.ensures.ran
     (λ it b. YieldsList-from_lines c.args.text.now (ap lines_rest b ∙ c.lines.ensures.rest))
-    (λ xs e h. ap (λ (ws : List (Bor (List ℕ))). map (λ w. w.now) ws)
-    (h.0 ∙ ap (λ (ws : List (Bor (List ℕ))). ws ++ xs) c.clear.ensures.items) ∙ e)
+    (λ xs e h. rw (h.0, c.clear.ensures.items) e)

@@ -29,15 +29,10 @@ returns-in-None-clause-ok g c =
     let start = setting c.args.machine.now c.args.scripts.now in
     let found = c.first_sought.new.aim in
     let became = c.first_sought.ensures.becomes in
-    let none : IsFirstSought start (aim_of start found.seen.now found.room found.longest.items) None =
-    subst (λ (o : Option (Vec Cpu Global)).
-    IsFirstSought start (aim_of start found.seen.now found.room found.longest.items)
-    (option_map (λ s. s.items) o))
-    c.in-None.is c.in_ok-order.ensures.ok in
     let begun : IsExplained start c.args.seen.now found.longest.items =
     rw (← c.new-explainer.ensures.seen)
     (became.3
     (rw c.new-explainer.ensures.none (start_explained start c.new-explainer.result.seen.now))) in
-    rw (ap (λ (v : Vec Cpu Global). v.items) c.into_longest.ensures)
+    rw c.into_longest.ensures
     (none_found start c.args.seen.now found.seen.now found.room found.longest.items
-    (became.0 ∙ c.new-explainer.ensures.seen) none begun)
+    (became.0 ∙ c.new-explainer.ensures.seen) (rw c.in-None.is at c.in_ok-order.ensures.ok) begun)

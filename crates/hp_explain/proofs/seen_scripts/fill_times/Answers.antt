@@ -16,9 +16,8 @@ loop-passed-preserved c =
 
 pub returns-clause-rising : goal.returns-clause-rising
 returns-clause-rising c =
-    subst (λ (z : List ObservedLine). AreRising z)
-    (sym (fill_all c.args.lines.now c.loop-passed.lines c.loop-passed.passed c.loop-passed.later
-    c.loop-passed-test.false c.loop-passed.invariant)) (filled_rise c.args.lines.now)
+    rw (fill_all c.args.lines.now c.loop-passed.lines c.loop-passed.passed c.loop-passed.later
+    c.loop-passed-test.false c.loop-passed.invariant) (filled_rise c.args.lines.now)
 
 pub returns-clause-filled : goal.returns-clause-filled
 returns-clause-filled c =

@@ -6,9 +6,7 @@ use Rattle.hp_explain.proofs.seen_scripts.scripts_of.Goals as goal
 
 pub loop-cpu-preserved : goal.loop-cpu-preserved
 loop-cpu-preserved c =
-    let pushed
-    = c.push_reserved.ensures.items
-    ∙ ap (λ (z : List (List ObservedLine)). z ++ c.in_ok-script.script ∷ []) c.reserve.ensures.items in
+    let pushed = rw c.reserve.ensures.items at c.push_reserved.ensures.items in
     filled_more c.args.scripts.now c.args.seen.now c.loop-cpu.cpu c.loop-cpu.seen c.loop-cpu.observed.items
     c.push_reserved.new.self.items c.index-seen-cpu.result c.in_ok-script.script c.finish.new.self
     c.index-scripts-cpu.result c.requires.same (omega arith) c.index-scripts-cpu.is

@@ -9,12 +9,8 @@ use Rattle.hp_explain.proofs.standing.next_of.Goals as goal
 pub returns-in-Ok-true-clause-next : goal.returns-in-Ok-true-clause-next
 returns-in-Ok-true-clause-next c =
     let p = c.args.path.now in
-    let forth =
-    subst (λ (b : Bool). IsForth p c.args.cpu b c.forward.new.self) c.in-Ok-true.field-0-test
-    c.in-Ok-true.ensures.ok in
-    let runs =
-    subst (λ (o : Option Unfinished). IsWaitingFor p.setting c.args.seen.now p.news c.args.cpu o)
-    c.in_default.is c.waits_for.ensures in
+    let forth = rw c.in-Ok-true.field-0-test at c.in-Ok-true.ensures.ok in
+    let runs = rw c.in_default.is at c.waits_for.ensures in
     next_answered p.setting c.args.seen.now p.news c.args.cpu c.latest_answer-next.result runs
     (answered_forth p c.forward.new.self c.args.cpu c.latest_answer-next.result forth
     c.latest_answer-next.ensures)

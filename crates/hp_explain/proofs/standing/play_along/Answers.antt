@@ -7,14 +7,11 @@ use Rattle.hp_explain.proofs.standing.play_along.Goals as goal
 
 pub loop-cpu-preserved : goal.loop-cpu-preserved
 loop-cpu-preserved c =
-    let forth =
-    subst (λ (b : Bool). IsForth c.loop-cpu.path c.cpu.inside.0 b c.forward.new.self)
-    c.in-Ok-true.field-0-test c.in-Ok-true.ensures.ok in record {
-      setting = ap (λ (p : PathValue). p.setting) forth.3 ∙ c.loop-cpu.invariant.setting;
+    let forth = rw c.in-Ok-true.field-0-test at c.in-Ok-true.ensures.ok in record {
+      setting = rw forth.3 c.loop-cpu.invariant.setting;
       front = played_further c.loop-cpu.path c.forward.new.self c.cpu.inside.0 c.loop-cpu.cpu-index
           c.args.schedule.now forth
-          (subst (λ (n : ℕ). slice_get c.args.schedule.now c.loop-cpu.cpu-index ≡ Some n) (sym c.cpu.view_is)
-          (slice_get_read c.args.schedule.now _ c.loop-cpu.cpu-index c.cpu-item.result refl
+          (rw c.cpu.view_is (slice_get_read c.args.schedule.now _ c.loop-cpu.cpu-index c.cpu-item.result refl
           c.loop-cpu-test.true c.cpu-item.is))
           c.loop-cpu.invariant.front;
     }

@@ -11,12 +11,7 @@ loop-cpu-preserved c =
     let p = c.args.path.now in
     let more = c.in_ok-push_standing.ensures.more in record {
       same = c.push_standing.ensures.same ∙ c.loop-cpu.invariant.same;
-      standings = subst
-          (λ (all : List Standing).
-          AreStandingsBelow p.setting c.args.seen.now p.news (c.loop-cpu.cpu + 1) all)
-          (sym more.1)
+      standings = rw more.1
           (stand_more p.setting c.args.seen.now p.news c.loop-cpu.cpu c.loop-cpu.all.items more.0
-          c.loop-cpu.invariant.standings
-          (subst (λ (q : PathValue). IsStanding q.setting c.args.seen.now q.news c.loop-cpu.cpu more.0)
-          c.loop-cpu.invariant.same more.2));
+          c.loop-cpu.invariant.standings (rw (← c.loop-cpu.invariant.same) more.2));
     }

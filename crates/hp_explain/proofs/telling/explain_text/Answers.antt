@@ -2,8 +2,8 @@
 use Rattle.std.proofs.Common.{string_bytes}
 use Rattle.std.proofs.lemmas.Result.{err_from_is_err_and}
 use Rattle.hp_search.proofs.Known.{held_in, stopped_in, unprepared_known}
-use Rattle.hp_explain.specs.Telling.{AreAnswers, IsExplainedOn, IsExplainingCause, OfAnswers}
-use Rattle.hp_explain.proofs.Told.{answers_are, not_searched}
+use Rattle.hp_explain.specs.Telling.{IsExplainedOn, IsExplainingCause, OfAnswers}
+use Rattle.hp_explain.proofs.Told.{not_searched}
 use Rattle.hp_explain.proofs.telling.explain_text.Goals as goal
 
 pub returns-in_err-prepared-clause-err : goal.returns-in_err-prepared-clause-err
@@ -22,15 +22,12 @@ returns-in_err-seen-clause-err g c =
 pub returns-in-Ok-clause-ok : goal.returns-in-Ok-clause-ok
 returns-in-Ok-clause-ok g c =
     let f = c.in-Ok.told in
-    let read : AreAnswers c.args.answers.now c.in_ok-prepared.prepared.start.scripts.items c.in_ok-seen.seen =
-    answers_are c.args.answers.now c.as_slice.result.now c.in_ok-prepared.prepared.start.scripts.items
-    c.in_ok-seen.seen c.as_slice.ensures.value c.in_ok-seen.ensures.sizes c.in_ok-seen.ensures.words
-    c.in_ok-seen.ensures.objects in
+    let sizes = rw c.as_slice.ensures.value at c.in_ok-seen.ensures.sizes in
     held_in
     (λ names before s. OfAnswers c.args.answers.now s
     (λ seen. IsExplainedOn c.args.form names before s seen (string_bytes f.text) f.result))
     c.args.scenario.now 0 c.in_ok-prepared.prepared c.in_ok-prepared.ensures.ok
-    (c.in_ok-seen.seen, read, c.in-Ok.ensures.ok)
+    (c.in_ok-seen.seen, (sizes, c.in_ok-seen.ensures.words, c.in_ok-seen.ensures.objects), c.in-Ok.ensures.ok)
 
 pub returns-clause-err : goal.returns-clause-err
 returns-clause-err g c =

@@ -13,6 +13,4 @@ returns-in_ok-told-in-Ok-clause-ok g c =
     let f = c.in_ok-told-in-Ok.told in
     explained_on c.args.form (names_of p) (before_of p) (setting_of p) c.args.seen.now
     c.in-Ok.explanation (string_bytes f.text) f.result
-    (subst (λ (ss : List (List Step)). IsExplanation (setting p.start.machine ss) c.args.seen.now
-    c.in-Ok.explanation) c.as_slice-scripts.ensures.value c.in-Ok.ensures.ok)
-    c.in_ok-told-in-Ok.ensures
+    (rw c.as_slice-scripts.ensures.value at c.in-Ok.ensures.ok) c.in_ok-told-in-Ok.ensures

@@ -1,35 +1,42 @@
--- The search begins before any call; if it found a schedule, that is one.
-use Rattle.std.proofs.Common.{subst, ◌∙◌}
-use Rattle.hp_schedules.specs.Schedules.{Setting}
-use Rattle.hp_explore.specs.Searches.{IsCloser, IsSearching, IsTurned}
+-- The search begins before any call, and goes on until it found a schedule, or none is left.
+use Rattle.std.proofs.Common.{ℕ, List, Some, ap, refl, subst, sym, ◌∙◌}
+use Rattle.hp_schedules.specs.Schedules.{Setting, schedule_of}
+use Rattle.hp_explore.specs.Aims.{IsFirstSought}
+use Rattle.hp_explore.specs.Paths.{PathValue}
+use Rattle.hp_explore.specs.Searches.{HasTurned, IsOn, turns_at}
 use Rattle.hp_explore.specs.Settings.{setting}
-use Rattle.hp_explore.proofs.SearchBacks.{found_here}
-use Rattle.hp_explore.proofs.SearchTurns.{begun_at, started}
+use Rattle.hp_explore.specs.declared.searching.Turn.{Turn}
+use Rattle.hp_explore.proofs.FirstSought.{none_found}
+use Rattle.hp_explore.proofs.SearchTurns.{started}
 use Rattle.hp_explore.proofs.searching.first_sought.Goals as goal
 
 pub turns-init : goal.turns-init
 turns-init g c =
     let at = setting c.args.machine.now c.args.scripts.now in
+    let begun = c.in_ok-search.ensures in
     record {
-      searching =
-          started at (g.A.Aim.shows c.args.aim.now at) c.in_ok-search.search c.requires.admitted
-          c.in_ok-search.ensures;
-      same = begun_at at c.in_ok-search.search c.in_ok-search.ensures;
+      schedule =
+          begun.schedule ∙ sym (ap (λ (p : PathValue). schedule_of p.news) begun.path);
+      trying =
+          started at (g.A.Aim.shows c.args.aim.now at) 0 c.in_ok-search.search c.requires.admitted begun;
+      same = ap (λ (p : PathValue). p.setting) begun.path;
       becomes = g.met.A.Aim.stays c.args.aim.now at;
     }
 
 pub turns-preserved-in-On : goal.turns-preserved-in-On
 turns-preserved-in-On g c =
     let at = setting c.args.machine.now c.args.scripts.now in
-    let closer : IsCloser (g.A.Aim.shows c.turn.new.aim c.turns.search.path.setting) c.turns.search
-    c.turn.new.self =
-    subst (IsTurned (g.A.Aim.shows c.turn.new.aim c.turns.search.path.setting) c.turns.search
-    c.turn.new.self) c.in-On.is c.in_ok-turn.ensures.ok in
+    let on : IsOn (g.A.Aim.shows c.turn.new.aim at) 0 (λ p. Unit {0}) at
+    (turns_at 0 c.turns.search.path c.turns.search.next) c.turn.new.self =
+    subst (λ (t : Turn). HasTurned (g.A.Aim.shows c.turn.new.aim at) 0 (λ p. Unit {0}) at
+    (turns_at 0 c.turns.search.path c.turns.search.next) c.turn.new.self t) c.in-On.is
+    (subst (λ (h : Setting). HasTurned (g.A.Aim.shows c.turn.new.aim h) 0 (λ p. Unit {0}) h
+    (turns_at 0 c.turns.search.path c.turns.search.next) c.turn.new.self c.in_ok-turn.field-0)
+    c.turns.invariant.same c.in_ok-turn.ensures.ok) in
     record {
-      searching =
-          subst (λ (h : Setting). IsSearching (g.A.Aim.shows c.turn.new.aim h) c.turn.new.self)
-          c.turns.invariant.same closer.searching;
-      same = closer.same ∙ c.turns.invariant.same;
+      schedule = on.schedule;
+      trying = on.trying;
+      same = on.same;
       becomes =
           g.met.A.Aim.joined c.args.aim.now at c.turns.aim c.turn.new.aim c.turns.invariant.becomes
           (subst (λ (h : Setting). g.A.Aim.becomes c.turns.aim h c.turn.new.aim) c.turns.invariant.same
@@ -39,15 +46,17 @@ turns-preserved-in-On g c =
 pub turns-preserved : goal.turns-preserved
 turns-preserved g c =
     let at = setting c.args.machine.now c.args.scripts.now in
-    let closer : IsCloser (g.A.Aim.shows c.turn.new.aim c.turns.search.path.setting) c.turns.search
-    c.turn.new.self =
-    subst (IsTurned (g.A.Aim.shows c.turn.new.aim c.turns.search.path.setting) c.turns.search
-    c.turn.new.self) c.in-New.is c.in_ok-turn.ensures.ok in
+    let on : IsOn (g.A.Aim.shows c.turn.new.aim at) 0 (λ p. Unit {0}) at
+    (turns_at 0 c.turns.search.path c.turns.search.next) c.turn.new.self =
+    subst (λ (t : Turn). HasTurned (g.A.Aim.shows c.turn.new.aim at) 0 (λ p. Unit {0}) at
+    (turns_at 0 c.turns.search.path c.turns.search.next) c.turn.new.self t) c.in-New.is
+    (subst (λ (h : Setting). HasTurned (g.A.Aim.shows c.turn.new.aim h) 0 (λ p. Unit {0}) h
+    (turns_at 0 c.turns.search.path c.turns.search.next) c.turn.new.self c.in_ok-turn.field-0)
+    c.turns.invariant.same c.in_ok-turn.ensures.ok) in
     record {
-      searching =
-          subst (λ (h : Setting). IsSearching (g.A.Aim.shows c.turn.new.aim h) c.turn.new.self)
-          c.turns.invariant.same closer.searching;
-      same = closer.same ∙ c.turns.invariant.same;
+      schedule = on.schedule;
+      trying = on.trying;
+      same = on.same;
       becomes =
           g.met.A.Aim.joined c.args.aim.now at c.turns.aim c.turn.new.aim c.turns.invariant.becomes
           (subst (λ (h : Setting). g.A.Aim.becomes c.turns.aim h c.turn.new.aim) c.turns.invariant.same
@@ -85,8 +94,20 @@ returns-in-Over-clause-becomes g c =
 pub returns-in-Found-clause-ok : goal.returns-in-Found-clause-ok
 returns-in-Found-clause-ok g c =
     let at = setting c.args.machine.now c.args.scripts.now in
-    found_here at (g.A.Aim.shows c.turn.new.aim at) c.turns.search c.turn.new.self c.in_ok-turn.field-0
-    c.into_schedule.result.items
-    (subst (λ (h : Setting). IsTurned (g.A.Aim.shows c.turn.new.aim h) c.turns.search c.turn.new.self
-    c.in_ok-turn.field-0) c.turns.invariant.same c.in_ok-turn.ensures.ok)
-    c.in-Found.is c.turns.invariant.same c.into_schedule.ensures
+    subst (λ (s : List ℕ). IsFirstSought at (g.A.Aim.shows c.turn.new.aim at) (Some s))
+    (sym c.into_schedule.ensures)
+    ((subst (λ (t : Turn). HasTurned (g.A.Aim.shows c.turn.new.aim at) 0 (λ p. Unit {0}) at
+    (turns_at 0 c.turns.search.path c.turns.search.next) c.turn.new.self t) c.in-Found.is
+    (subst (λ (h : Setting). HasTurned (g.A.Aim.shows c.turn.new.aim h) 0 (λ p. Unit {0}) h
+    (turns_at 0 c.turns.search.path c.turns.search.next) c.turn.new.self c.in_ok-turn.field-0)
+    c.turns.invariant.same c.in_ok-turn.ensures.ok)) refl)
+
+pub returns-in-Over-clause-ok : goal.returns-in-Over-clause-ok
+returns-in-Over-clause-ok g c =
+    let at = setting c.args.machine.now c.args.scripts.now in
+    none_found at (g.A.Aim.shows c.turn.new.aim at)
+    (subst (λ (t : Turn). HasTurned (g.A.Aim.shows c.turn.new.aim at) 0 (λ p. Unit {0}) at
+    (turns_at 0 c.turns.search.path c.turns.search.next) c.turn.new.self t) c.in-Over.is
+    (subst (λ (h : Setting). HasTurned (g.A.Aim.shows c.turn.new.aim h) 0 (λ p. Unit {0}) h
+    (turns_at 0 c.turns.search.path c.turns.search.next) c.turn.new.self c.in_ok-turn.field-0)
+    c.turns.invariant.same c.in_ok-turn.ensures.ok))

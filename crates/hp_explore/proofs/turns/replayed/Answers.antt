@@ -4,7 +4,7 @@ use Rattle.std.proofs.lemmas.Result.{err_from_is_err_and}
 use Rattle.hp_schedules.specs.Schedules.{schedule_of}
 use Rattle.hp_explore.specs.Settings.{setting}
 use Rattle.hp_explore.specs.Walks.{IsPlayed}
-use Rattle.hp_steps.specs.Steps.{StepsValue}
+use Rattle.hp_memory.specs.Steps.{StepsValue}
 use Rattle.hp_explore.proofs.Machines.{no_fewer}
 use Rattle.hp_explore.proofs.Stepped.{machine_at}
 use Rattle.hp_explore.proofs.turns.replayed.Goals as goal

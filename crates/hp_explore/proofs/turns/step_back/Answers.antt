@@ -1,5 +1,5 @@
 -- The latest way leads back over the latest record.
-use Rattle.std.proofs.Common.{◌≡◌, ◌+◌, ◌∷◌, ◌++◌, [], Option, length, ap, arith, sym, ◌∙◌, option_to_list, reverse}
+use Rattle.std.proofs.Common.{◌≡◌, ◌∷◌, ◌++◌, [], Option, length, ap, arith, sym, ◌∙◌, option_to_list, reverse}
 use Rattle.hp_units.specs.declared.replies.Record.{Record}
 use Rattle.hp_explore.specs.Paths.{IsPath, IsWayBack}
 use Rattle.hp_schedules.specs.Schedules.{Setting}

@@ -1,5 +1,5 @@
 -- One processor's numbers more.
-use Rattle.hp_renumbering.specs.Numberings.{number_of}
+use Rattle.hp_laws.specs.Numberings.{number_of}
 use Rattle.hp_explore.proofs.PlaceKeys.{steered_more}
 use Rattle.hp_explore.proofs.visited.push_all_steering.Goals as goal
 

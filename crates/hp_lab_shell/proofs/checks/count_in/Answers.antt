@@ -1,7 +1,7 @@
 -- The line is that of the scenario that was read, or the bytes are none.
 use Rattle.std.proofs.Common.{string_bytes}
 use Rattle.std.proofs.lemmas.Result.{IfOk-weaker}
-use Rattle.hp_names.specs.Seen.{named_seen}
+use Rattle.hp_scripts.specs.Seen.{named_seen}
 use Rattle.hp_lab_shell.proofs.Counted.{counted_none, read_count}
 use Rattle.hp_lab_shell.proofs.checks.count_in.Goals as goal
 

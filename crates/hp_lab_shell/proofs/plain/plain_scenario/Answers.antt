@@ -1,5 +1,5 @@
 use Rattle.std.proofs.Common.{refl}
-use Rattle.hp_names.specs.Seen.{named_seen}
+use Rattle.hp_scripts.specs.Seen.{named_seen}
 use Rattle.hp_lab_shell.proofs.plain.plain_scenario.Goals as goal
 
 pub returns-clause-ok : goal.returns-clause-ok

@@ -4,9 +4,7 @@ use Rattle.hp_laws.proofs.HandedRecords.{record-plugged, record-staying}
 use Rattle.hp_laws.proofs.handed.handed_frames_are_plugged.Goals as goal
 
 pub returns-clause-plugged : goal.returns-clause-plugged
-returns-clause-plugged c l base before h r frame layout p legal e =
-    record-plugged l base before h r frame layout p legal e
+returns-clause-plugged c = record-plugged
 
 pub returns-clause-staying : goal.returns-clause-staying
-returns-clause-staying c l base before h r from to layout p legal e =
-    record-staying l base before h r from to layout p legal e
+returns-clause-staying c = record-staying

@@ -3,4 +3,4 @@ use Rattle.hp_laws.proofs.LawProofs.{restored}
 use Rattle.hp_laws.proofs.laws.restored_state.Goals as goal
 
 pub returns : goal.returns
-returns c l base before op h r legal event is = restored l base before op h r legal event is
+returns c = restored

@@ -3,4 +3,4 @@ use Rattle.hp_laws.proofs.LawProofs.{undone}
 use Rattle.hp_laws.proofs.laws.undone_state.Goals as goal
 
 pub returns : goal.returns
-returns c l base serial h r event good = undone l base serial h r event good
+returns c = undone

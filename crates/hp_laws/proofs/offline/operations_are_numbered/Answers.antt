@@ -7,7 +7,7 @@ pub returns-clause-boot : goal.returns-clause-boot
 returns-clause-boot c l = boot-claims l (λ op. op ≤ 0)
 
 pub returns-clause-history : goal.returns-clause-history
-returns-clause-history c l base before h legal claims = value-claims l base before h legal claims
+returns-clause-history c = value-claims
 
 pub returns-clause-greater : goal.returns-clause-greater
 returns-clause-greater c last op blocks h low = numbered_others last op blocks low h

@@ -4,5 +4,4 @@ use Rattle.hp_laws.proofs.OperationLaws.{given_back}
 use Rattle.hp_laws.proofs.operations.cancels_give_rows_back.Goals as goal
 
 pub returns : goal.returns
-returns c l base before h r place b plan layout p legal at is good =
-    given_back l base before h r place b plan layout p legal at is good
+returns c = given_back

@@ -3,9 +3,7 @@ use Rattle.hp_laws.proofs.OperationLaws.{claimed, held}
 use Rattle.hp_laws.proofs.operations.operations_hold_their_rows.Goals as goal
 
 pub returns-clause-claimed : goal.returns-clause-claimed
-returns-clause-claimed c l base before h place b plan layout p legal at =
-    claimed l base before h place b plan layout p legal at
+returns-clause-claimed c = claimed
 
 pub returns-clause-held : goal.returns-clause-held
-returns-clause-held c l base before h place b plan layout p legal at stays =
-    held l base before h place b plan layout p legal at stays
+returns-clause-held c = held

@@ -4,4 +4,4 @@ use Rattle.hp_laws.proofs.Boots.{boot-placed}
 use Rattle.hp_laws.proofs.placement.boot_is_well_placed.Goals as goal
 
 pub returns : goal.returns
-returns c l layout = boot-placed l layout
+returns c = boot-placed

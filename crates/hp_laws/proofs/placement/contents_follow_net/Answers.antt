@@ -3,4 +3,4 @@ use Rattle.hp_laws.proofs.NetContents.{value-contents}
 use Rattle.hp_laws.proofs.placement.contents_follow_net.Goals as goal
 
 pub returns : goal.returns
-returns c l base before h legal = value-contents l base before h legal
+returns c = value-contents

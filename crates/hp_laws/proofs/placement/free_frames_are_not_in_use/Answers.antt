@@ -1,5 +1,5 @@
 -- A frame is in one place.
-use Rattle.std.proofs.Common.{◌≡◌, Bool, cond, ap, arith}
+use Rattle.std.proofs.Common.{◌≡◌, arith}
 use Rattle.hp_units.specs.Placement.{offline_places}
 use Rattle.hp_laws.proofs.placement.free_frames_are_not_in_use.Goals as goal
 
@@ -8,5 +8,5 @@ returns-clause-free c l s frame placed some = omega (arith, placed.once frame, s
 
 pub returns-clause-unplugged : goal.returns-clause-unplugged
 returns-clause-unplugged c l s frame placed unplugged =
-    let there : offline_places l s frame ≡ 1 = ap (λ (b : Bool). cond b 1 0) unplugged in
+    let there : offline_places l s frame ≡ 1 = rw unplugged in
     omega (arith, placed.once frame, there)

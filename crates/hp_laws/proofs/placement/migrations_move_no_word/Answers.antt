@@ -3,8 +3,7 @@ use Rattle.hp_laws.proofs.MovedPages.{migrate-frames, migrate-words}
 use Rattle.hp_laws.proofs.placement.migrations_move_no_word.Goals as goal
 
 pub returns-clause-words : goal.returns-clause-words
-returns-clause-words c l s serial cpu op = migrate-words l s serial cpu op
+returns-clause-words c = migrate-words
 
 pub returns-clause-frames : goal.returns-clause-frames
-returns-clause-frames c l s serial cpu op from to owner page placed replied =
-    migrate-frames l s serial cpu op from to owner page placed replied
+returns-clause-frames c = migrate-frames

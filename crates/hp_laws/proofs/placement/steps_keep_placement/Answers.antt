@@ -3,4 +3,4 @@ use Rattle.hp_laws.proofs.EventSteps.{step-placed}
 use Rattle.hp_laws.proofs.placement.steps_keep_placement.Goals as goal
 
 pub returns : goal.returns
-returns c l s serial cpu event layout p = step-placed l s serial cpu event layout p
+returns c = step-placed

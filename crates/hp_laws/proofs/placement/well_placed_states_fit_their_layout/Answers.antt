@@ -3,4 +3,4 @@ use Rattle.hp_laws.proofs.Fitting.{placed-fits}
 use Rattle.hp_laws.proofs.placement.well_placed_states_fit_their_layout.Goals as goal
 
 pub returns : goal.returns
-returns c l s layout p = placed-fits l s layout p
+returns c = placed-fits

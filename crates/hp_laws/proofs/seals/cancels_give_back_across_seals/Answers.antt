@@ -3,5 +3,4 @@ use Rattle.hp_laws.proofs.SealedLaws.{given_back_in_all}
 use Rattle.hp_laws.proofs.seals.cancels_give_back_across_seals.Goals as goal
 
 pub returns : goal.returns
-returns c l base before hs h r place b plan layout p legal at is good =
-    given_back_in_all l base before hs h r place b plan layout p legal at is good
+returns c = given_back_in_all

@@ -3,9 +3,7 @@ use Rattle.hp_laws.proofs.SealedLaws.{commit_granted_in_all, commit_held_in_all}
 use Rattle.hp_laws.proofs.seals.commits_grant_across_seals.Goals as goal
 
 pub returns-clause-held : goal.returns-clause-held
-returns-clause-held c l base before hs h r place b plan layout p legal at is good =
-    commit_held_in_all l base before hs h r place b plan layout p legal at is good
+returns-clause-held c = commit_held_in_all
 
 pub returns-clause-granted : goal.returns-clause-granted
-returns-clause-granted c l base before hs h r place b plan layout p legal at is good =
-    commit_granted_in_all l base before hs h r place b plan layout p legal at is good
+returns-clause-granted c = commit_granted_in_all

@@ -1,8 +1,4 @@
-use Rattle.std.proofs.Common.{subst, sym}
 use Rattle.std.proofs.lemmas.Result.{on_err_weaker, on_ok_weaker}
-use Rattle.hp_scenario.specs.Seen.{asked_seen}
-use Rattle.hp_scenario.specs.declared.asked.Asked.{Asked}
-use Rattle.hp_live.specs.Answers.{IsDone}
 use Rattle.hp_live.proofs.Told.{event_done, file_done, not_taken_done, on_err, plan_answered, plan_done, seal_done}
 use Rattle.hp_live.proofs.runs.answer_asked.Goals as goal
 
@@ -35,8 +31,5 @@ returns-in-Cat-clause-err c =
 pub returns-in-Seal-clause-err : goal.returns-in-Seal-clause-err
 returns-in-Seal-clause-err c =
     on_err c.say-in-Seal.result
-    (subst (λ (q : Asked). IsDone c.args.machine.now c.args.cpu (asked_seen q) c.say-in-Seal.new.self.did
-    c.seal-count.new.self)
-    (sym c.in-Seal.is)
-    (seal_done c.args.machine.now c.seal-count.new.self c.args.cpu c.say-in-Seal.new.self.did
-    c.seal-count.ensures.goes_on))
+    (rw c.in-Seal.is (seal_done c.args.machine.now c.seal-count.new.self c.args.cpu
+    c.say-in-Seal.new.self.did c.seal-count.ensures.goes_on))

@@ -25,9 +25,8 @@ loop-reply-preserved g c =
           made.given.value;
       made = g.met.P.Port.joined _ _ _ so_far.gained (made.receipt ∷ []) so_far.made made.made;
       is =
-          goes_on (g.P.Port.shows c.args.port.now).cpus c.args.turns c.args.plan c.loop-reply.driver
-          c.answer.new.self c.loop-reply.event c.in-Some.next c.in-Ok.reply so_far.gained made.receipt
-          so_far.is made.given.asked made.replied c.answer.ensures (sym c.work.ensures ∙ c.in-Some.is);
+          goes_on _ _ _ _ _ _ _ _ _ _ so_far.is made.given.asked made.replied c.answer.ensures (sym
+          c.work.ensures ∙ c.in-Some.is);
     }
 
 pub end-requires : goal.end-requires
@@ -55,10 +54,8 @@ returns-in-None g c =
           made.given.value;
       made = g.met.P.Port.joined _ _ _ so_far.gained (made.receipt ∷ []) so_far.made made.made;
       is =
-          over (g.P.Port.shows c.args.port.now).cpus c.args.turns c.args.plan c.loop-reply.driver
-          c.answer.new.self c.loop-reply.event c.in-Ok.reply c.end.result so_far.gained made.receipt
-          so_far.is made.given.asked made.replied c.answer.ensures (sym c.work.ensures ∙ c.in-None.is)
-          c.end.ensures;
+          over _ _ _ _ _ _ _ _ _ _ so_far.is made.given.asked made.replied c.answer.ensures (sym
+          c.work.ensures ∙ c.in-None.is) c.end.ensures;
     })
 
 pub returns-in-Err : goal.returns-in-Err
@@ -73,8 +70,5 @@ returns-in-Err g c =
           (g.P.Port.shows c.call.new.self) so_far.gained None (Some c.in-Err.fault) so_far.value
           c.in-Err.ensures.err;
       made = (c.loop-reply.port, so_far.made, c.in-Err.ensures.leaves);
-      is =
-          broken_off (g.P.Port.shows c.args.port.now).cpus c.args.turns c.args.plan c.loop-reply.driver
-          c.loop-reply.event c.operation_in.result c.in-Err.fault so_far.gained so_far.is
-          c.operation_in.ensures;
+      is = broken_off _ _ _ _ _ _ _ _ so_far.is c.operation_in.ensures;
     })

@@ -1,5 +1,5 @@
 -- A frame is in one place, and a page has words exactly if it has a frame.
-use Rattle.hp_lemmas.proofs.Placed.{pages_fit}
+use Rattle.hp_units.proofs.Placed.{pages_fit}
 use Rattle.hp_pages.proofs.Views.{are_page_frames, settled_placed}
 use Rattle.hp_pages.proofs.laws.well_placed_pages_are_settled.Goals as goal
 

@@ -12,19 +12,16 @@ returns-in_err-follow-clause-along c =
     let p =
     err_from_is_err_and c.from_residual-in_err-follow.result c.from_residual-in_err-follow.ensures.1 in
     rw (p.1, p.2)
-    (λ full.
-    subst (λ (path : PathValue). FillsAlong path.setting c.args.schedule.now) c.in_ok-path.ensures
-    (c.in_err-follow.ensures.along full))
+    (λ full. rw c.in_ok-path.ensures at (c.in_err-follow.ensures.along full))
 
 pub returns-then-not-branch-clause-ok : goal.returns-then-not-branch-clause-ok
 returns-then-not-branch-clause-ok c =
     unplayed (setting c.args.machine.now c.args.scripts.now) c.args.part c.args.schedule.now
     c.in_ok-path.path c.follow.new.path c.in_ok-follow.field-0 c.in_ok-follow.ensures.ok
-    c.if-not-branch.true (ap (λ (p : PathValue). p.setting) c.in_ok-path.ensures)
+    c.if-not-branch.true (rw c.in_ok-path.ensures)
 
 pub returns-clause-ok : goal.returns-clause-ok
 returns-clause-ok c =
     led_to (setting c.args.machine.now c.args.scripts.now) c.args.part c.args.schedule.now
     c.in_ok-path.path c.follow.new.path c.in_ok-follow.field-0 c.in_ok-outcome.outcome
-    c.in_ok-follow.ensures.ok c.if-not-branch.false (ap (λ (p : PathValue). p.setting) c.in_ok-path.ensures)
-    c.in_ok-outcome.ensures
+    c.in_ok-follow.ensures.ok c.if-not-branch.false (rw c.in_ok-path.ensures) c.in_ok-outcome.ensures

@@ -10,19 +10,14 @@ returns-then-not-branch-clause-ok c =
     unfollowed c.args.path.now.setting c.args.schedule.now c.loop-cpu.cpu-index c.cpu-item.result
     c.loop-cpu.path
     c.forward.new.self c.loop-cpu-test.true c.cpu-item.is c.loop-cpu.invariant.0 c.loop-cpu.invariant.1
-    c.is_played.ensures
-    (subst (λ (n : ℕ). IsForth c.loop-cpu.path n false c.forward.new.self) c.cpu.view_is
-    (subst (λ (b : Bool). IsForth c.loop-cpu.path c.cpu.inside.0 b c.forward.new.self) c.if-not-branch.true
-    c.in_ok-forward.ensures.ok))
+    c.is_played.ensures (rw (c.if-not-branch.true, c.cpu.view_is) at c.in_ok-forward.ensures.ok)
 
 pub loop-cpu-preserved : goal.loop-cpu-preserved
 loop-cpu-preserved c =
     followed c.args.path.now.setting c.args.schedule.now c.loop-cpu.cpu-index c.cpu-item.result
     c.loop-cpu.path
     c.forward.new.self c.loop-cpu-test.true c.cpu-item.is c.loop-cpu.invariant.0 c.loop-cpu.invariant.1
-    (subst (λ (n : ℕ). IsForth c.loop-cpu.path n true c.forward.new.self) c.cpu.view_is
-    (subst (λ (b : Bool). IsForth c.loop-cpu.path c.cpu.inside.0 b c.forward.new.self) c.if-not-branch.false
-    c.in_ok-forward.ensures.ok))
+    (rw (c.if-not-branch.false, c.cpu.view_is) at c.in_ok-forward.ensures.ok)
 
 pub returns-in_err-forward-clause-along : goal.returns-in_err-forward-clause-along
 returns-in_err-forward-clause-along c =
@@ -32,6 +27,4 @@ returns-in_err-forward-clause-along c =
     (λ full.
     filled c.args.path.now.setting c.args.schedule.now c.loop-cpu.cpu-index c.cpu-item.result c.loop-cpu.path
     c.loop-cpu-test.true c.cpu-item.is c.loop-cpu.invariant.0 c.loop-cpu.invariant.1 c.is_played.ensures
-    (subst (λ (n : ℕ). FillsHere c.loop-cpu.path.setting c.loop-cpu.path.news n) c.cpu.view_is
-    (subst (IsCauseHere c.loop-cpu.path.setting c.loop-cpu.path.news c.cpu.inside.0) full
-    c.in_err-forward.ensures.cause)))
+    (rw (full, c.cpu.view_is) at c.in_err-forward.ensures.cause))

@@ -7,16 +7,6 @@ use Rattle.hp_part_files.proofs.heads.write_head.Goals as goal
 
 pub returns : goal.returns
 returns c =
-    let here : SearchValue = record {
-      of = c.search.inside.of;
-      calls = c.search.inside.calls;
-      setup = c.search.inside.setup;
-      scenario = c.search.inside.scenario.now;
-    } in
-    four_written _ (head_numbers here c.args.number) (head_counts here.setup c.args.ends)
-    (escaped_text Kept here.scenario) (codes "\"}")
-    _ _ _ _ c.in_ok-write_numbers.ensures c.in_ok-write_counts.ensures c.in_ok-write_escaped.ensures
-    c.in_ok-push_str.ensures.bytes
-    ∙ ap (λ (s : SearchValue). string_bytes c.args.out.now
-    ++ head_line s c.args.number c.args.ends)
-    c.search.view_is
+    rw (← c.search.view_is)
+    (four_written _ _ _ _ _ _ _ _ _ c.in_ok-write_numbers.ensures c.in_ok-write_counts.ensures
+    c.in_ok-write_escaped.ensures c.in_ok-push_str.ensures.bytes)

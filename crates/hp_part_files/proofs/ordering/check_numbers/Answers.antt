@@ -8,5 +8,4 @@ returns-clause-ok c =
     let all : c.loop-index.index ≡ length c.args.parts.now =
     omega (arith, c.loop-index.auto.index-end, c.loop-index-test.false) in
     all_placed c.args.of c.args.parts.now c.requires.within
-    (subst (λ (n : ℕ). ArePlacedBelow n c.args.parts.now) all c.loop-index.invariant.placed)
-    (omega arith)
+    (rw all at c.loop-index.invariant.placed) (omega arith)

@@ -6,6 +6,6 @@ use Rattle.hp_part_files.proofs.ordering.ends_by_number.Goals as goal
 
 pub check_numbers-requires-clause-within : goal.check_numbers-requires-clause-within
 check_numbers-requires-clause-within c =
-    subst (λ (ps : List PartEndsValue). AreWithin c.args.of ps) (sym c.deref.ensures.value)
+    rw c.deref.ensures.value
     (All-permutation (λ (p : PartEndsValue). (1 ≤ p.number) × (p.number ≤ c.args.of)) _ _
     c.in_ok-parts.ensures.moved c.requires)

@@ -38,11 +38,7 @@ returns-in-Ok-part_on-clause-ok g c =
     (λ names before s. IsPartOn n c.args.setup input c.args.limit ended (string_bytes f.text)
     f.is_found names s)
     input c.args.setup p c.in_ok-prepared.ensures.ok
-    (subst (λ (k : ℕ). IsPartOn n k input c.args.limit ended (string_bytes f.text) f.is_found (names_of p)
-    (setting_of p)) c.in_ok-prepared.ensures.ok.number
-    (subst (λ (t : List ℕ). IsPartOn n p.setup t c.args.limit ended (string_bytes f.text)
-    f.is_found (names_of p)
-    (setting_of p)) c.in-Ok.ensures.0 c.in-Ok-part_on.ensures.ok))
+    (rw (c.in-Ok.ensures.0, c.in_ok-prepared.ensures.ok.number) at c.in-Ok-part_on.ensures.ok)
 
 pub returns-clause-err : goal.returns-clause-err
 returns-clause-err g c =

@@ -20,12 +20,7 @@ cause_along g schedule explore.OutOfMemory along = tt
 
 pub returns-in-Ok-clause-ok : goal.returns-in-Ok-clause-ok
 returns-in-Ok-clause-ok c =
-    let p = c.args.prepared.now in
-    let schedule = c.args.schedule.now in
-    subst (λ (q : PartValue). IsEndOf (setting_of p) q schedule c.in-Ok.outcome) c.part-part.ensures
-    (subst (λ (ss : List (List Step)). IsEndOf (setting p.start.machine ss) c.part-part.result schedule
-    c.in-Ok.outcome)
-    c.as_slice.ensures.value c.in-Ok.ensures.ok)
+    rw (← c.part-part.ensures, ← c.as_slice.ensures.value) c.in-Ok.ensures.ok
 
 pub returns-in-Err-clause-err : goal.returns-in-Err-clause-err
 returns-in-Err-clause-err c =
@@ -35,8 +30,7 @@ returns-in-Err-clause-err c =
       c.told_fault.result,
       refl,
       untold (IsCauseAlong schedule) (setting_of p) fault c.told_fault.result c.told_fault.ensures
-          (subst (λ (ss : List (List Step)). IsCauseAlong schedule (setting p.start.machine ss) fault)
-          c.as_slice.ensures.value
+          (rw (← c.as_slice.ensures.value)
           (cause_along (setting p.start.machine c.as_slice.result.now) schedule fault
           c.in-Err.ensures.along)),
     )

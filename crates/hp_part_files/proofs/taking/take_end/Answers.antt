@@ -2,7 +2,7 @@ use Rattle.std.proofs.Common.{ℕ, List, subst}
 use Rattle.std.proofs.lemmas.Result.{IfErr-weaker, err_from_is_err_and, on_ok_weaker}
 use Rattle.hp_search.specs.Prepared.{names_of, setting_of}
 use Rattle.hp_part_files.specs.Faults.{IsUnplayed}
-use Rattle.hp_part_files.proofs.Read.{end_taken, no_end, not_played, not_pushed, own_end}
+use Rattle.hp_part_files.proofs.Read.{end_taken, not_played, not_pushed}
 use Rattle.hp_part_files.proofs.taking.take_end.Goals as goal
 
 pub returns-in_err-outcome-clause-err : goal.returns-in_err-outcome-clause-err
@@ -13,15 +13,13 @@ returns-in_err-outcome-clause-err c =
     rw (p.1, p.2)
     (not_played (names_of c.args.prepared.now) g c.args.search.now c.args.gathered.now c.args.text.now
     c.args.count c.args.schedule fault c.requires.line
-    (subst (λ (l : List ℕ). IsUnplayed g l fault) c.deref.ensures.value c.in_err-outcome.ensures.err))
+    (rw c.deref.ensures.value at c.in_err-outcome.ensures.err))
 
 pub returns-in-Some-clause-ok : goal.returns-in-Some-clause-ok
 returns-in-Some-clause-ok c =
     let names = names_of c.args.prepared.now in
     let g = setting_of c.args.prepared.now in
-    let own =
-    own_end g c.args.search.now c.args.gathered.now c.number.result c.deref.result.now c.args.schedule.items _
-    c.in-Some.outcome c.in_ok-outcome.ensures.ok c.in-Some.is c.number.ensures c.deref.ensures.value in
+    let own = rw (c.in-Some.is, c.number.ensures, c.deref.ensures.value) at c.in_ok-outcome.ensures.ok in
     on_ok_weaker c.push_end.result
     (λ p. end_taken names g c.args.search.now c.args.gathered.now c.push_end.new.gathered _
     c.args.text.now p own) c.push_end.ensures.ok
@@ -30,9 +28,7 @@ pub returns-in-Some-clause-err : goal.returns-in-Some-clause-err
 returns-in-Some-clause-err c =
     let names = names_of c.args.prepared.now in
     let g = setting_of c.args.prepared.now in
-    let own =
-    own_end g c.args.search.now c.args.gathered.now c.number.result c.deref.result.now c.args.schedule.items _
-    c.in-Some.outcome c.in_ok-outcome.ensures.ok c.in-Some.is c.number.ensures c.deref.ensures.value in
+    let own = rw (c.in-Some.is, c.number.ensures, c.deref.ensures.value) at c.in_ok-outcome.ensures.ok in
     IfErr-weaker c.push_end.result _ _
     (λ fault h. not_pushed names g c.args.search.now c.args.gathered.now c.args.text.now _ fault
     c.requires.line own h) c.push_end.ensures.err
@@ -42,8 +38,5 @@ returns-in-None-clause-err c = record {
   count = c.args.count;
   schedule = c.args.schedule;
   line = c.requires.line;
-  none =
-      no_end (setting_of c.args.prepared.now) c.args.search.now c.args.gathered.now c.number.result
-      c.deref.result.now c.args.schedule.items _ c.in_ok-outcome.ensures.ok c.in-None.is c.number.ensures
-      c.deref.ensures.value;
+  none = rw (c.in-None.is, c.number.ensures, c.deref.ensures.value) at c.in_ok-outcome.ensures.ok;
 }

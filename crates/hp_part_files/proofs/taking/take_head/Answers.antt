@@ -1,4 +1,5 @@
 use Rattle.std.proofs.Common.{◌≡◌, false, true, ap, sym, ◌∙◌, arith}
+use Rattle.std.proofs.lemmas.Bool.{false≢true}
 use Rattle.hp_part_files.specs.Heads.{SearchValue}
 use Rattle.hp_part_files.proofs.Read.{head_taken}
 use Rattle.hp_part_files.proofs.taking.take_head.Goals as goal
@@ -8,12 +9,7 @@ returns-then-not-is_whole-clause-err c =
     let of : c.from-of.result ≡ c.args.search.now.of =
     c.from-of.ensures ∙ ap (λ (s : SearchValue). s.of) c.search.view_is in
     λ names g. (
-      (
-        c.number.ensures,
-        λ whole.
-            let bad : false ≡ true = sym c.if-not-is_whole.true ∙ c.is_whole.ensures.1 whole in
-            absurd cc,
-      ),
+      (c.number.ensures, λ whole. false≢true (sym c.if-not-is_whole.true ∙ c.is_whole.ensures.1 whole)),
       c.args.number,
       c.args.ends,
       (

@@ -8,9 +8,7 @@ use Rattle.hp_part_files.proofs.writing.write_end.Goals as goal
 after : (old keys shown schedule one two : List ℕ) → one ≡ old ++ keys → two ≡ one ++ processor_list shown
     → shown ≡ schedule → two ≡ old ++ (keys ++ processor_list schedule)
 after old keys shown schedule one two first second same =
-    second ∙ ap (λ (text : List ℕ). text ++ processor_list shown) first
-    ∙ append_assoc old keys (processor_list shown)
-    ∙ ap (λ (s : List ℕ). old ++ (keys ++ processor_list s)) same
+    rw (second, first, same, append_assoc old)
 
 pub returns-clause-ok : goal.returns-clause-ok
 returns-clause-ok c =

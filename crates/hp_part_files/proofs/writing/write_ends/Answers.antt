@@ -15,10 +15,5 @@ loop-index-preserved c =
 
 pub returns-clause-ok : goal.returns-clause-ok
 returns-clause-ok c =
-    let names = names_of c.args.prepared.now in
-    let g = setting_of c.args.prepared.now in
-    let none : drop c.loop-index.index c.args.ends.now ≡ [] =
-    drop_all c.loop-index.index c.args.ends.now (omega (arith, c.loop-index-test.false)) in
-    sym (append-nil (string_bytes c.loop-index.out))
-    ∙ (ap (λ (es : List Ending). string_bytes c.loop-index.out
-    ++ end_lines names g (c.loop-index.index + 1) es) (sym none) ∙ c.loop-index.invariant)
+    let none = drop_all c.loop-index.index c.args.ends.now (omega (arith, c.loop-index-test.false)) in
+    rw (none, append-nil) at c.loop-index.invariant

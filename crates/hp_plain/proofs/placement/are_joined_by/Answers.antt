@@ -2,7 +2,7 @@ use Rattle.std.proofs.Common.{ℕ, arith, ◌≡◌, ◌∙◌, ◌+◌, ◌^◌
 use Rattle.std.proofs.lemmas.Nat.{pow_pos}
 use Rattle.hp_units.specs.Arithmetic.{frame_count}
 use Rattle.hp_units.specs.FreeAreas.{is_on}
-use Rattle.hp_placement.proofs.PlacedHeads.{heads_below}
+use Rattle.hp_plain.proofs.PlacedHeads.{heads_below}
 use Rattle.hp_plain.proofs.PlacedLists.{list_numbered}
 use Rattle.hp_plain.proofs.placement.are_joined_by.Goals as goal
 

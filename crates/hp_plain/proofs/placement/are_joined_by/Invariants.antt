@@ -1,5 +1,5 @@
 use Rattle.std.proofs.Common.{◌≡◌, ℕ, ◌<◌, ◌≤◌, ◌/◌, [], get_or, length}
-use Rattle.hp_placement.specs.Placing.{IsListJoined}
+use Rattle.hp_plain.specs.Placing.{IsListJoined}
 use Rattle.hp_plain.proofs.placement.are_joined_by.Given as goal
 
 abbrev pub invariant-loop-number : goal.invariant-loop-number

@@ -1,7 +1,7 @@
 use Rattle.std.proofs.Common.{◌%◌, ◌==◌, []}
 use Rattle.std.specs.List.{count_by}
-use Rattle.hp_placement.specs.Placing.{IsPoolPlaced, pool_numbered}
-use Rattle.hp_placement.proofs.Counting.{SoFar}
+use Rattle.hp_plain.specs.Placing.{IsPoolPlaced, pool_numbered}
+use Rattle.hp_plain.proofs.Counting.{SoFar}
 use Rattle.hp_plain.proofs.placement.place_cached.Given as goal
 
 abbrev pub invariant-loop-number : goal.invariant-loop-number

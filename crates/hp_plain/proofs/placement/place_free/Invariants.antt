@@ -2,7 +2,7 @@ use Rattle.std.proofs.Common.{◌≡◌, ℕ, ◌/◌, ◌%◌, [], true}
 use Rattle.hp_units.specs.Memory.{class_numbered}
 use Rattle.hp_units.specs.FreeAreas.{is_on}
 use Rattle.hp_units.specs.Placement.{IsBlockOf, class_at, list_places}
-use Rattle.hp_placement.proofs.Counting.{SoFar}
+use Rattle.hp_plain.proofs.Counting.{SoFar}
 use Rattle.hp_plain.proofs.placement.place_free.Given as goal
 
 abbrev pub invariant-loop-number : goal.invariant-loop-number

@@ -1,7 +1,7 @@
 use Rattle.std.proofs.Common.{[], None, cond, get_or}
 use Rattle.hp_units.specs.Pages.{holds, words_at}
 use Rattle.hp_units.specs.Placement.{IsPage}
-use Rattle.hp_placement.proofs.Counting.{SoFar}
+use Rattle.hp_plain.proofs.Counting.{SoFar}
 use Rattle.hp_plain.proofs.placement.place_owner.Given as goal
 
 abbrev pub invariant-loop-number : goal.invariant-loop-number

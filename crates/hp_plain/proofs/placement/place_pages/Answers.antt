@@ -1,5 +1,5 @@
 use Rattle.std.proofs.Common.{arith, [], get_or, refl}
-use Rattle.hp_placement.proofs.Counting.{so_far_more}
+use Rattle.hp_plain.proofs.Counting.{so_far_more}
 use Rattle.hp_plain.proofs.PlacedPages.{pages_all, pages_twice}
 use Rattle.hp_plain.proofs.placement.place_pages.Goals as goal
 

@@ -2,7 +2,7 @@ use Rattle.std.proofs.Common.{ℕ, [], None, get_or}
 use Rattle.std.specs.List.{count_by}
 use Rattle.hp_units.specs.Pages.{holds, words_at}
 use Rattle.hp_units.specs.Placement.{IsPage}
-use Rattle.hp_placement.proofs.Counting.{SoFar}
+use Rattle.hp_plain.proofs.Counting.{SoFar}
 use Rattle.hp_plain.proofs.placement.place_pages.Given as goal
 
 abbrev pub invariant-loop-owner : goal.invariant-loop-owner

@@ -1,7 +1,7 @@
 use Rattle.std.proofs.Common.{◌≡◌, ◌∙◌, ℕ, true, List, ◌++◌, codes, drop, Option}
 use Rattle.std.specs.List.{starts_with}
 use Rattle.std.specs.Prelude.{nat_eq}
-use Rattle.hp_numbers.specs.NumberWords.{number_of}
+use Rattle.hp_units.specs.NumberWords.{number_of}
 use Rattle.hp_requests.specs.Words.{block_named}
 use Rattle.hp_requests.proofs.words.block_named.Goals as goal
 

@@ -1,6 +1,6 @@
 use Rattle.std.proofs.Common.{refl}
 use Rattle.std.proofs.lemmas.Result.{err_from_is_err_and}
-use Rattle.hp_names.specs.Seen.{named_seen}
+use Rattle.hp_scripts.specs.Seen.{named_seen}
 use Rattle.hp_search.proofs.Known.{unready}
 use Rattle.hp_search.proofs.prepared.prepare.Goals as goal
 

@@ -1,7 +1,7 @@
 use Rattle.std.proofs.Common.{◌<◌, ◌++◌, length, take, refl, ◌∙◌, arith}
-use Rattle.std.proofs.lemmas.List.{length-append}
+use Rattle.std.proofs.lemmas.List.{length-append, length-take, take_all}
 use Rattle.std.proofs.lemmas.Option.{slice_get_read}
-use Rattle.hp_shared.proofs.Comparisons.{marks_next, marks_none, short_take, strays_next, take_all}
+use Rattle.hp_shared.proofs.Comparisons.{marks_next, marks_none, strays_next}
 use Rattle.hp_shared.proofs.comparing.mark_records.Goals as goal
 
 pub loop-at-init : goal.loop-at-init
@@ -19,13 +19,7 @@ mark_record-requires-clause-room g c =
     let records = c.args.records.now in
     let inside : at < length records = omega (arith, c.loop-at-test.true, c.loop-at.auto) in (
       room.0 ++ take at records,
-      omega (
-        arith,
-        length-append room.0 (take at records),
-        short_take at records,
-        inside,
-        room.1,
-      ),
+      omega (arith, length-append room.0 (take at records), length-take at records, room.1),
       c.loop-at.invariant.1 room.0 room.2,
     )
 

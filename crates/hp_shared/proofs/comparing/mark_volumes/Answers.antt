@@ -1,7 +1,7 @@
 use Rattle.std.proofs.Common.{◌<◌, length, take, refl, ◌∙◌, arith}
 use Rattle.std.proofs.lemmas.Option.{slice_get_read}
+use Rattle.std.proofs.lemmas.List.{take_all}
 use Rattle.hp_shared.specs.Volumes.{sealed_records}
-use Rattle.hp_shared.proofs.Comparisons.{take_all}
 use Rattle.hp_shared.proofs.Sealing.{marks_on, room_on, strays_on}
 use Rattle.hp_shared.proofs.comparing.mark_volumes.Goals as goal
 

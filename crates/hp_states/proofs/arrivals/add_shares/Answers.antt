@@ -5,9 +5,3 @@ use Rattle.hp_states.proofs.arrivals.add_shares.Goals as goal
 pub add-requires-clause-room : goal.add-requires-clause-room
 add-requires-clause-room o c =
     omega (arith, c.room.ensures, c.fit_in.ensures.0 c.if-not-fit_in.false)
-
-pub add-requires-clause-ends : goal.add-requires-clause-ends
-add-requires-clause-ends o c = c.requires
-
-pub returns-clause-ok : goal.returns-clause-ok
-returns-clause-ok o c = (c.in_ok-add.ensures.added, c.in_ok-add.ensures.trail)

@@ -2,7 +2,6 @@
 use Rattle.std.proofs.Common.{ℕ, arith, inl, subst, sym, ◌∙◌}
 use Rattle.std.proofs.lemmas.List.{length-map}
 use Rattle.std.proofs.lemmas.Result.{IfOk-weaker}
-use Rattle.hp_units.specs.declared.replies.Record.{Record}
 use Rattle.hp_schedules.specs.Parts.{IsOn}
 use Rattle.hp_schedules.specs.Schedules.{schedule_of}
 use Rattle.hp_states.proofs.Entered.{entered_fresh, left_out, let_in}
@@ -30,12 +29,9 @@ pub returns-then-records-calls-clause-ok : goal.returns-then-records-calls-claus
 returns-then-records-calls-clause-ok o c =
     λ g at.
     entered_fresh g c.args.records.now c.args.part c.args.tally.now c.new.result
-    (inl (omega (
-      arith,
-      c.if-records-calls.true,
-      c.calls.ensures,
-      length-map c.args.records.now (λ (r : Record). r.cpu),
-    ))) at.walked c.new.ensures
+    (inl (omega
+    (arith, c.if-records-calls.true, c.calls.ensures, length-map c.args.records.now (λ r. r.cpu)))) at.walked
+    c.new.ensures
 
 pub leaves_out-requires-clause-long : goal.leaves_out-requires-clause-long
 leaves_out-requires-clause-long o c = omega (arith, c.if-records-calls.false, c.calls.ensures)

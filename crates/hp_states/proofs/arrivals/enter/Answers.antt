@@ -32,31 +32,24 @@ come_to-requires-clause-way o c =
 pub add_shares-requires : goal.add_shares-requires
 add_shares-requires o c =
     let stood = c.requires.stood in
-    found_at_ends stood.0 (standing stood.0 stood.1) c.come_to.new.self c.args.tally.now.ends
-    c.in-Some.shares.now
-    (found o (goal.at.add_shares-requires o c).In-Some stood.0 stood.1 stood.2)
+    found_at_ends (found o (goal.at.add_shares-requires o c).In-Some stood.0 stood.1 stood.2)
 
 pub returns-then-not-has_key-clause-ok : goal.returns-then-not-has_key-clause-ok
 returns-then-not-has_key-clause-ok o c =
-    λ g news stood. entered_within g news c.args.tally.now c.new-then-not-has_key.result
-    c.new-then-not-has_key.ensures
+    λ g news stood. entered_within g news _ _ c.new-then-not-has_key.ensures
 
 pub returns-then-is_stopped-clause-ok : goal.returns-then-is_stopped-clause-ok
-returns-then-is_stopped-clause-ok o c =
-    λ g news stood. entered_within g news c.args.tally.now c.new.result c.new.ensures
+returns-then-is_stopped-clause-ok o c = λ g news stood. entered_within g news _ _ c.new.ensures
 
 pub returns-in-Some-clause-ok : goal.returns-in-Some-clause-ok
 returns-in-Some-clause-ok o c =
     IfOk-weaker c.add_shares.result _ _
-    (λ entry added g news stood. entered_added g news c.args.tally.now c.add_shares.new.tally
-    c.in-Some.shares.now entry
+    (λ entry added g news stood. entered_added g news _ c.add_shares.new.tally c.in-Some.shares.now entry
     (λ adds part within walked.
-    found_walked g part (standing g news) c.come_to.new.self c.args.tally.now.ends
-    c.add_shares.new.tally.ends c.in-Some.shares.now within
-    (found o (goal.at.returns-in-Some-clause-ok o c).In-Some g news stood) walked adds)
+    found_walked (found o (goal.at.returns-in-Some-clause-ok o c).In-Some g news stood) part _ within walked
+    adds)
     added)
     c.add_shares.ensures.ok
 
 pub returns-clause-ok : goal.returns-clause-ok
-returns-clause-ok o c =
-    λ g news stood. entered_within g news c.args.tally.now c.new-2.result c.new-2.ensures
+returns-clause-ok o c = λ g news stood. entered_within g news _ _ c.new-2.ensures

@@ -25,7 +25,7 @@ returns-clause-memo c =
     c.in_ok-has_key.ensures.ok c.if-not-has_key.false g news keeping.cursors_are keeping.way in
     memo_more g ends memo c.keep.new.self c.args.shares.now more
     (memo_written g ends c.args.memo.now memo c.write_key.ensures.same keeping.memo_is)
-    (row_kept g walked.part (standing g news) memo.standing walked.old ends memo.key c.args.shares.now
-    walked.all (record { layout = refl; played = keeping.played; state = refl }) walked.counted
-    walked.grown walked.before walked.through key_is))
+    (row_kept g walked.part (standing g news) _ walked.old ends _ _ walked.all
+    (record { layout = refl; played = keeping.played; state = refl }) walked.counted walked.grown
+    walked.before walked.through key_is))
     c.keep.ensures.ok

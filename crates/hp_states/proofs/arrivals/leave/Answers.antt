@@ -14,10 +14,8 @@ keep-requires-clause-keeping c =
       leaving.0,
       c.args.records.now,
       c.gather.new.self.ends,
-      left_kept leaving.0 c.args.part c.args.records.now c.args.positions.now.cursors.items c.args.tally.now
-          c.gather.new.self c.args.memo.now c.args.frame c.since.result.now
-          (omega (arith, c.if-records-calls.false, c.calls.ensures)) c.gather.ensures.trail
-          c.gather.ensures.ends c.since.ensures.shares leaving.1,
+      left_kept c.gather.new.self (omega (arith, c.if-records-calls.false, c.calls.ensures))
+          c.gather.ensures.trail c.gather.ensures.ends c.since.ensures.shares leaving.1,
     )
 
 pub returns-then-records-calls-clause-memo : goal.returns-then-records-calls-clause-memo
@@ -26,20 +24,15 @@ returns-then-records-calls-clause-memo c =
 
 pub returns-then-records-calls-clause-tally : goal.returns-then-records-calls-clause-tally
 returns-then-records-calls-clause-tally c =
-    go_on_gathered c.args.frame.start c.args.tally.now c.gather.new.self c.gather.ensures.ends
-    c.gather.ensures.trail
+    go_on_gathered c.gather.ensures.ends c.gather.ensures.trail
 
 pub returns-clause-memo : goal.returns-clause-memo
 returns-clause-memo c =
     on_ok_weaker c.keep.result
     (λ more g leaving. more g c.args.records.now c.gather.new.self.ends
-    (left_kept g c.args.part c.args.records.now c.args.positions.now.cursors.items c.args.tally.now
-    c.gather.new.self c.args.memo.now c.args.frame c.since.result.now
-    (omega (arith, c.if-records-calls.false, c.calls.ensures)) c.gather.ensures.trail
-    c.gather.ensures.ends c.since.ensures.shares leaving))
+    (left_kept c.gather.new.self (omega (arith, c.if-records-calls.false, c.calls.ensures))
+    c.gather.ensures.trail c.gather.ensures.ends c.since.ensures.shares leaving))
     c.keep.ensures.memo
 
 pub returns-clause-tally : goal.returns-clause-tally
-returns-clause-tally c =
-    go_on_gathered c.args.frame.start c.args.tally.now c.gather.new.self c.gather.ensures.ends
-    c.gather.ensures.trail
+returns-clause-tally c = go_on_gathered c.gather.ensures.ends c.gather.ensures.trail

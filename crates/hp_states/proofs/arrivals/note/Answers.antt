@@ -11,6 +11,3 @@ returns-clause-ok o c =
 
 pub returns-then-not-is_end-clause-trail : goal.returns-then-not-is_end-clause-trail
 returns-then-not-is_end-clause-trail o c = keeps_none c.args.tally.now
-
-pub returns-clause-trail : goal.returns-clause-trail
-returns-clause-trail o c = c.note-noted.ensures.trail

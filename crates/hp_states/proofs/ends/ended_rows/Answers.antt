@@ -1,9 +1,8 @@
 -- The row of one block more.
-use Rattle.std.proofs.Common.{◌≡◌, List, ap, arith, length, refl, slice_get, ◌∙◌}
+use Rattle.std.proofs.Common.{◌≡◌, ap, arith, length, refl, slice_get, ◌∙◌}
 use Rattle.std.proofs.lemmas.List.FromFn.{length-map-range_with_len}
 use Rattle.hp_units.specs.LayoutParts.{LayoutParts}
-use Rattle.hp_units.specs.declared.rows.Row.{Row}
-use Rattle.hp_schedules.specs.Outcomes.{ended_row, ended_rows_below}
+use Rattle.hp_schedules.specs.Outcomes.{ended_row}
 use Rattle.hp_states.proofs.Ended.{rows_more}
 use Rattle.hp_states.proofs.ends.ended_rows.Goals as goal
 
@@ -12,7 +11,7 @@ push_reserved-requires c =
     omega (
       arith,
       c.loop-block.rows.ok.0,
-      ap (λ (rows : List Row). length rows) c.loop-block.invariant.ended,
+      ap length c.loop-block.invariant.ended,
       length-map-range_with_len
           (λ block. ended_row (slice_get c.args.memory.now.state.blocks.rows block)) 0 c.loop-block.block,
       c.loop-block.invariant.room,
@@ -37,5 +36,4 @@ returns c =
       c.blocks-blocks.ensures.is,
       ap (λ (l : LayoutParts). l.blocks) c.layout.ensures,
     ) in
-    c.loop-block.invariant.ended
-    ∙ ap (λ blocks. ended_rows_below blocks c.args.memory.now.state) all
+    rw (← all) c.loop-block.invariant.ended

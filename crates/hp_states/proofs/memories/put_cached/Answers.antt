@@ -4,8 +4,7 @@ use Rattle.hp_states.proofs.memories.put_cached.Goals as goal
 
 pub loop-number-preserved : goal.loop-number-preserved
 loop-number-preserved c =
-    three_more c.args.code.now c.loop-number.code c.put_list.new.code c.put_list-in-loop-number.new.code
-    c.put_list-in-loop-number-2.new.code c.args.memory.now.state.free c.loop-number.number
+    three_more _ c.loop-number.code _ _ _ c.args.memory.now.state.free c.loop-number.number
     c.args.memory.now.layout.cpus c.requires.cached
     (omega (arith, c.loop-number-test.true, c.cpus-number-end.ensures.is, ap (λ l. l.cpus) c.layout.ensures))
     c.loop-number.invariant c.in_ok-put_list.ensures c.in_ok-put_list-2.ensures c.in_ok-put_list-3.ensures

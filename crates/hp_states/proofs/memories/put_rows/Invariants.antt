@@ -1,7 +1,7 @@
 use Rattle.std.proofs.Common.{◌≡◌, ◌++◌, map, take}
 use Rattle.std.specs.List.{flat_map}
-use Rattle.hp_renumbering.specs.Renumbered.{renumbered_row}
-use Rattle.hp_renumbering.specs.Numberings.{number_of}
+use Rattle.hp_laws.specs.Renumbered.{renumbered_row}
+use Rattle.hp_laws.specs.Numberings.{number_of}
 use Rattle.hp_states.specs.Parts.{row_code}
 use Rattle.hp_states.proofs.memories.put_rows.Given as goal
 

@@ -1,5 +1,5 @@
 use Rattle.std.proofs.Common.{[], ◌∷◌, ◌++◌, ap, ◌∙◌}
-use Rattle.hp_links.specs.LinkedLists.{LinkedLists, list_at, with_list}
+use Rattle.hp_buddy.specs.LinkedLists.{LinkedLists, list_at, with_list}
 use Rattle.layer_tests.proofs.links.three_listed.Goals as goal
 
 pub returns : goal.returns

@@ -3,8 +3,8 @@ use Rattle.std.proofs.Common.{◌≡◌, ap, arith}
 use Rattle.hp_units.specs.LayoutParts.{LayoutParts}
 use Rattle.hp_units.specs.declared.rows.Pool.TheVariants.{Nm}
 use Rattle.hp_tape.specs.Bounds.{batch_bound}
-use Rattle.hp_cpus.specs.Cpus.{frames_of}
-use Rattle.hp_cpus.proofs.Undoes.{take-few}
+use Rattle.hp_buddy.specs.Cpus.{frames_of}
+use Rattle.hp_buddy.proofs.Undoes.{take-few}
 use Rattle.layer_tests.proofs.processors.take.Goals as goal
 
 pub take_one-requires-clause-room : goal.take_one-requires-clause-room

@@ -1,7 +1,7 @@
 -- What the step noted leads back.
 use Rattle.hp_units.specs.declared.events.Event.TheVariants.{KernelAlloc}
 use Rattle.hp_tape.specs.Bounds.{delta_bound}
-use Rattle.hp_memory.proofs.Steps.{step-leads}
+use Rattle.hp_memory.proofs.MemorySteps.{step-leads}
 use Rattle.machine_tests.proofs.memories.stepped_and_back.Goals as goal
 
 pub back-requires-clause-leads : goal.back-requires-clause-leads

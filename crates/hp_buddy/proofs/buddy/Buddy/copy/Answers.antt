@@ -1,7 +1,7 @@
 use Rattle.std.proofs.Common.{List}
 use Rattle.hp_units.specs.LayoutParts.{LayoutParts}
 use Rattle.hp_units.specs.declared.rows.Kind.{Kind}
-use Rattle.hp_links.specs.LinkedLists.{LinkedLists}
+use Rattle.hp_buddy.specs.LinkedLists.{LinkedLists}
 use Rattle.hp_buddy.specs.Buddy.{BuddyValue}
 use Rattle.hp_buddy.proofs.buddy.Buddy.copy.Goals as goal
 

@@ -1,6 +1,6 @@
 use Rattle.std.proofs.Common.{◌≡◌, ℕ, ◌+◌, ◌*◌, List, [], ◌∷◌, slice_get, refl, ap}
 use Rattle.hp_units.specs.Memory.{class_index, free_list}
-use Rattle.hp_links.specs.LinkedLists.{first, list_at}
+use Rattle.hp_buddy.specs.LinkedLists.{first, list_at}
 use Rattle.hp_buddy.specs.Buddy.{BuddyValue}
 use Rattle.hp_buddy.proofs.buddy.Buddy.front.Goals as goal
 

@@ -2,10 +2,10 @@
 -- block when they have left.
 use Rattle.std.proofs.Common.{◌≡◌, ℕ, ◌+◌, ◌-◌, arith, subst, sym}
 use Rattle.std.proofs.lemmas.Nat.{pow_pos}
-use Rattle.hp_numbers.specs.Numbers.{ancestor}
+use Rattle.hp_units.specs.Numbers.{ancestor}
 use Rattle.hp_units.specs.FreeAreas.{give_block}
 use Rattle.hp_units.specs.Placement.{free_places}
-use Rattle.hp_lemmas.proofs.Joins.{JoinsTo}
+use Rattle.hp_units.proofs.Joins.{JoinsTo}
 use Rattle.hp_buddy.proofs.Splits.{IsLeft}
 use Rattle.hp_buddy.proofs.Gives.{Gives, give_block-gives}
 use Rattle.hp_buddy.proofs.Calls.{joins_to, joined_left, block_given, notes-then, room_left}

@@ -1,5 +1,5 @@
 use Rattle.std.proofs.Common.{ℕ, ap, ◌∙◌}
-use Rattle.hp_links.specs.LinkedLists.{last, list_at}
+use Rattle.hp_buddy.specs.LinkedLists.{last, list_at}
 use Rattle.hp_buddy.specs.Buddy.{BuddyValue}
 use Rattle.hp_buddy.proofs.Notes.{Seen, back-areas, frame-there, kept-with, list-there, order-small, seen-back, seen-unlisted}
 use Rattle.hp_buddy.proofs.buddy.Buddy.push_back.Goals as goal

@@ -1,7 +1,7 @@
 use Rattle.std.proofs.Common.{ap, arith, ◌≡◌}
 use Rattle.hp_units.specs.Arithmetic.{pageblock_of}
 use Rattle.hp_buddy.specs.Buddy.{BuddyValue}
-use Rattle.hp_lemmas.proofs.Geometry.{pageblock_in}
+use Rattle.hp_units.proofs.Geometry.{pageblock_in}
 use Rattle.hp_buddy.proofs.buddy.Buddy.set_mobility.Goals as goal
 
 pub kind-isolated-requires : goal.kind-isolated-requires

@@ -4,7 +4,7 @@ use Rattle.hp_units.specs.declared.rows.Mobility.{Mobility}
 use Rattle.hp_units.specs.declared.rows.Zone.TheVariants.{Normal as NormalZone}
 use Rattle.hp_units.specs.Memory.{usable_class}
 use Rattle.hp_units.specs.FreeAreas.{steal_block, steal_front}
-use Rattle.hp_lemmas.proofs.Places.{IsOrderAmong}
+use Rattle.hp_units.proofs.Places.{IsOrderAmong}
 use Rattle.hp_buddy.proofs.Splits.{steal_block-takes}
 use Rattle.hp_buddy.proofs.Calls.{IsOutcome, outcome, as_taken, found_greatest, steal_block-found, steal_block-none}
 use Rattle.hp_buddy.proofs.buddy.Buddy.steal.Goals as goal

@@ -1,7 +1,7 @@
 -- The least order that has a block lies in the layout, and its front block is taken.
 use Rattle.std.proofs.Common.{◌+◌, ◌-◌, arith}
 use Rattle.hp_units.specs.FreeAreas.{take_block, take_front}
-use Rattle.hp_lemmas.proofs.Places.{IsOrderAmong}
+use Rattle.hp_units.proofs.Places.{IsOrderAmong}
 use Rattle.hp_buddy.proofs.Splits.{take_block-takes}
 use Rattle.hp_buddy.proofs.Calls.{IsOutcome, outcome, as_taken, found_least, take_block-found, take_block-none}
 use Rattle.hp_buddy.proofs.buddy.Buddy.take.Goals as goal

@@ -1,5 +1,5 @@
 -- The line that the latest call finished was answered as it was seen, or not.
-use Rattle.std.proofs.Common.{None, Some, subst}
+use Rattle.std.proofs.Common.{None, Some, subst, ◌∙◌}
 use Rattle.std.proofs.lemmas.Bool.{iff_false}
 use Rattle.std.proofs.lemmas.Option.{same_Some}
 use Rattle.hp_schedules.specs.declared.line_answers.FinishedLine.{FinishedLine}
@@ -13,11 +13,9 @@ returns-in-Some-clause-admitted c =
     let called = c.requires.called in
     asked_explained c.args.path.now.setting c.args.self.now.seen.now c.args.self.now.room
     c.args.self.now.longest.items c.args.schedule.now c.args.path.now.news (Some c.in-Some.finished)
-    c.requires.schedule
-    c.is_played.ensures called (λ before r is. c.in-Some.ensures before r is)
-    (λ line same. subst (λ (f : FinishedLine). HasSeen c.args.self.now.seen.now called.cpu f.line f.answer)
-    (same_Some c.in-Some.finished line same)
-    ((c.has_seen_latest.ensures called.before called.cpu called.longer).0 told))
+    (rw c.requires.schedule c.is_played.ensures) called c.in-Some.ensures
+    (λ line same. rw (← same_Some c.in-Some.finished line same)
+    ((c.has_seen_latest.ensures called.before called.cpu (c.as_slice.ensures ∙ called.longer)).0 told))
 
 pub returns-in-Some-clause-skipped : goal.returns-in-Some-clause-skipped
 returns-in-Some-clause-skipped c =
@@ -25,13 +23,12 @@ returns-in-Some-clause-skipped c =
     let called = c.requires.called in
     asked_skipped c.args.path.now.setting c.args.self.now.seen.now c.args.self.now.room
     c.args.self.now.longest.items c.args.schedule.now c.args.path.now.news c.in-Some.finished
-    c.requires.schedule c.is_played.ensures called
-    (λ before r is. c.in-Some.ensures before r is)
-    (iff_false (c.has_seen_latest.ensures called.before called.cpu called.longer) told)
+    (rw c.requires.schedule c.is_played.ensures) called c.in-Some.ensures
+    (iff_false (c.has_seen_latest.ensures called.before called.cpu (c.as_slice.ensures ∙ called.longer)) told)
 
 pub returns-in-None-clause-admitted : goal.returns-in-None-clause-admitted
 returns-in-None-clause-admitted c =
     λ told. asked_explained c.args.path.now.setting c.args.self.now.seen.now c.args.self.now.room
     c.args.self.now.longest.items c.args.schedule.now c.args.path.now.news None
-    c.requires.schedule c.is_played.ensures c.requires.called
-    (λ before r is. c.in-None.ensures before r is) (λ line same. absurd cc)
+    (rw c.requires.schedule c.is_played.ensures) c.requires.called c.in-None.ensures
+    (λ line same. absurd cc)

@@ -4,14 +4,14 @@ use Rattle.std.proofs.lemmas.Bool.{iff_false}
 use Rattle.hp_explain.proofs.Beginnings.{full_skipped, run_skipped}
 use Rattle.hp_explain.proofs.explainer.ExplainerAim.may_try.Goals as goal
 
-pub returns-then-schedule-self-clause-skipped : goal.returns-then-schedule-self-clause-skipped
-returns-then-schedule-self-clause-skipped c =
+pub returns-then-len-self-clause-skipped : goal.returns-then-len-self-clause-skipped
+returns-then-len-self-clause-skipped c =
     λ told. full_skipped c.args.path.now.setting c.args.self.now.seen.now c.args.self.now.room
     c.args.self.now.longest.items c.args.schedule.now c.args.cpu c.requires.admitted.1
-    (omega (arith, c.if-schedule-self.true))
+    (omega (arith, c.len.ensures, c.if-len-self.true))
 
 pub returns-clause-skipped : goal.returns-clause-skipped
 returns-clause-skipped c =
     λ told. run_skipped c.args.path.now.setting c.args.self.now.seen.now c.args.self.now.room
-    c.args.self.now.longest.items c.args.schedule.now c.args.path.now.news c.args.cpu c.requires.schedule
-    c.is_played.ensures (iff_false c.may_run.ensures told)
+    c.args.self.now.longest.items c.args.schedule.now c.args.path.now.news c.args.cpu
+    (rw c.requires.schedule c.is_played.ensures) (iff_false c.may_run.ensures told)

@@ -11,7 +11,7 @@ pub returns-in-Some : goal.returns-in-Some
 returns-in-Some c =
     let told = over_told c.args.self.now c.args.count c.args.time c.in-Some.line.now
     (rw (← c.self.view_is) c.self.invariant)
-    (sym c.line.ensures ∙ ap (option_map (λ (l : Bor ObservedLine). l.now)) c.in-Some.is) in (
+    (rw c.in-Some.is at (sym c.line.ensures)) in (
       λ late. told.0 (leb-true _ _ late),
       λ over. le-leb _ _ (told.1 over),
     )
@@ -19,7 +19,6 @@ returns-in-Some c =
 pub returns-in-None : goal.returns-in-None
 returns-in-None c = (
   λ any. over_all c.args.self.now c.args.count c.args.time
-      (get_none c.args.self.now c.args.count
-      (sym c.line.ensures ∙ ap (option_map (λ (l : Bor ObservedLine). l.now)) c.in-None.is)),
+      (get_none c.args.self.now c.args.count (rw c.in-None.is at (sym c.line.ensures))),
   λ over. refl,
 )

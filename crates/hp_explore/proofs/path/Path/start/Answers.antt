@@ -2,7 +2,7 @@
 use Rattle.std.proofs.Common.{◌≡◌, [], ap, refl, sym, ◌∙◌}
 use Rattle.std.proofs.Math.Seq.{drop-length}
 use Rattle.hp_units.specs.LayoutParts.{LayoutParts}
-use Rattle.hp_steps.specs.Steps.{StepsValue}
+use Rattle.hp_memory.specs.Steps.{StepsValue}
 use Rattle.hp_explore.specs.Settings.{setting}
 use Rattle.hp_explore.proofs.Machines.{reached_start}
 use Rattle.hp_explore.proofs.Paths.{path_of}

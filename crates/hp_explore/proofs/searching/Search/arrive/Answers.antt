@@ -1,31 +1,63 @@
 -- The place is tried, or left at once.
-use Rattle.std.proofs.Common.{◌≡◌, Some, ap, subst, sym, ◌∙◌}
-use Rattle.hp_schedules.specs.Schedules.{plays, schedule_of}
-use Rattle.hp_explore.specs.Searches.{SearchValue}
-use Rattle.hp_explore.specs.Visited.{AreFollowed, AreVisited}
-use Rattle.hp_explore.proofs.Arrivals.{new_place}
-use Rattle.hp_explore.proofs.SearchBacks.{left_at_once}
+use Rattle.std.proofs.Common.{◌+◌, arith, refl, subst, ◌∙◌}
+use Rattle.std.proofs.lemmas.Result.{IfOk-weaker}
+use Rattle.hp_explore.specs.Aims.{MayBeSkipped}
+use Rattle.hp_explore.specs.Searches.{turns_at}
+use Rattle.hp_explore.proofs.SearchBacks.{turned_within}
+use Rattle.hp_explore.proofs.SearchTurns.{known_here, not_admitted, opened}
 use Rattle.hp_explore.proofs.searching.Search.arrive.Goals as goal
+
+pub up-requires-clause-leaving : goal.up-requires-clause-leaving
+up-requires-clause-leaving g c =
+    let v = c.args.self.now in
+    let aim = g.A.Aim.shows c.args.aim.now v.path.setting in
+    not_admitted aim c.args.seed v.path v.visited c.requires.arriving
+    (subst (MayBeSkipped aim) c.requires.schedule
+    (c.admits.ensures.skipped c.if-not-admits.true))
+
+pub returns-then-not-admits : goal.returns-then-not-admits
+returns-then-not-admits g c =
+    let v = c.args.self.now in
+    let aim = g.A.Aim.shows c.args.aim.now v.path.setting in
+    IfOk-weaker c.up.result _ _
+    (λ turn turned. turned_within aim c.args.seed (g.T.Places.keeps c.up.new.places c.args.aim.now)
+    v.path.setting (turns_at c.args.seed v.path 0) (turns_at c.args.seed v.path 0 + 1) c.up.new.self turn
+    (omega arith) (turned 0)) c.up.ensures
+
+pub up-requires-then-branch-clause-leaving : goal.up-requires-then-branch-clause-leaving
+up-requires-then-branch-clause-leaving g c =
+    let v = c.args.self.now in
+    let aim = g.A.Aim.shows c.args.aim.now v.path.setting in
+    known_here aim c.args.seed v.path v.visited c.look_up.new.self _
+    (g.met.A.Aim.lawful c.args.aim.now v.path.setting) c.is_played.ensures c.requires.arriving
+    (subst aim.admits c.requires.schedule
+    (c.admits.ensures.admitted c.if-not-admits.false))
+    c.in_ok-look_up.ensures.on c.in_ok-look_up.ensures.kept c.in_ok-look_up.ensures.way
+    c.in_ok-look_up.ensures.ok c.if-branch.true
 
 pub returns-then-branch : goal.returns-then-branch
 returns-then-branch g c =
-    left_at_once (g.A.Aim.shows c.args.aim.now c.args.self.now.path.setting) c.args.self.now
-    c.is_done.new.self c.up.new.self c.up.result c.requires.arriving
-    (subst (λ (w : SearchValue). plays w.path.setting (schedule_of w.path.news) ≡ Some w.path.news)
-    c.self.view_is c.is_played.ensures)
-    c.in_ok-is_done.ensures.same.0 c.in_ok-is_done.ensures.same.1 c.in_ok-is_done.ensures.visited
-    c.in_ok-is_done.ensures.way (c.in_ok-is_done.ensures.done c.if-branch.true) c.up.ensures
+    let v = c.args.self.now in
+    let aim = g.A.Aim.shows c.args.aim.now v.path.setting in
+    IfOk-weaker c.up-then-branch.result _ _
+    (λ turn turned. turned_within aim c.args.seed (g.T.Places.keeps c.up-then-branch.new.places
+    c.args.aim.now) v.path.setting (turns_at c.args.seed v.path 0) (turns_at c.args.seed v.path 0 + 1)
+    c.up-then-branch.new.self turn (omega arith) (turned 0)) c.up-then-branch.ensures
 
 pub returns : goal.returns
 returns g c =
     let v = c.args.self.now in
-    let here = c.self-2 in
     let aim = g.A.Aim.shows c.args.aim.now v.path.setting in
-    new_place aim v here.inside.path here.inside.schedule.items here.inside.visited c.requires.arriving
-    (c.in_ok-is_done.ensures.admitted c.if-branch.false)
-    (ap (λ (w : SearchValue). w.path) here.view_is ∙ c.in_ok-is_done.ensures.same.0)
-    (ap (λ (w : SearchValue). w.schedule) here.view_is ∙ c.in_ok-is_done.ensures.same.1)
-    (subst (λ (w : SearchValue). AreVisited v.path.setting aim v.schedule w.visited) (sym here.view_is)
-    c.in_ok-is_done.ensures.visited)
-    (subst (λ (w : SearchValue). AreFollowed v.path.setting v.path.news w.visited) (sym here.view_is)
-    c.in_ok-is_done.ensures.way)
+    record {
+      schedule = c.requires.schedule;
+      trying =
+          opened aim c.args.seed v.path v.visited c.look_up.new.self _ c.is_played.ensures
+          c.requires.arriving
+          (subst aim.admits c.requires.schedule
+          (c.admits.ensures.admitted c.if-not-admits.false))
+          c.in_ok-look_up.ensures.on c.in_ok-look_up.ensures.kept c.in_ok-look_up.ensures.way
+          c.in_ok-look_up.ensures.ok c.if-branch.false;
+      kept = c.in_ok-look_up.ensures.places;
+      same = refl;
+      fewer = omega arith;
+    }

@@ -1,57 +1,37 @@
--- The call that is taken back is one of the scripts' processors.
-use Rattle.std.proofs.Common.{◌≡◌, ◌+◌, ◌∷◌, ◌++◌, [], ℕ, List, Some, length, ap, arith, subst, sym, ◌∙◌}
-use Rattle.hp_units.specs.declared.replies.Record.{Record}
-use Rattle.hp_schedules.specs.Schedules.{Setting, schedule_of}
-use Rattle.hp_states.specs.Stops.{AreSameStops}
-use Rattle.hp_explore.specs.Paths.{IsBack, PathValue}
-use Rattle.hp_explore.specs.Searches.{SearchValue, search_at}
-use Rattle.hp_explore.specs.Visited.{AreFollowed}
-use Rattle.hp_explore.proofs.Framing.{longer_schedule}
-use Rattle.hp_explore.proofs.SearchBacks.{back_within, popped}
+-- The search is back at the place before, with one call more that is done with.
+use Rattle.std.proofs.Common.{ℕ, ◌+◌, ap, arith, length, ◌∙◌}
+use Rattle.hp_explore.specs.Searches.{number_at}
+use Rattle.hp_explore.proofs.SearchBacks.{all_done, back_within, gone_up, popped}
 use Rattle.hp_explore.proofs.searching.Search.up.Goals as goal
 
-pub overflow_add-self : goal.overflow_add-self
-overflow_add-self c =
-    let less =
-    back_within c.self.inside.path c.back.new.self c.in-Some.cpu c.is_played.ensures c.in-Some.ensures in
+pub number_at-requires : goal.number_at-requires
+number_at-requires g c =
     omega (
       arith,
-      less,
-      c.requires.room,
-      ap (λ (v : SearchValue). length v.path.setting.scripts) c.self.view_is,
+      back_within c.args.self.now.path c.back.new.self c.in-Some.cpu c.is_played.ensures c.in-Some.ensures,
+      c.requires.processors,
       c.cpu.view_is,
     )
 
 pub returns-in-Some : goal.returns-in-Some
-returns-in-Some c =
-    let back = c.in-Some.ensures in
-    let path = c.back.new.self in
-    let later = c.go_back.new.self in
-    let whole : c.self.inside.schedule.items ≡ schedule_of path.news ++ back.0.cpu ∷ [] =
-    ap (λ (v : SearchValue). v.schedule) c.self.view_is
-    ∙ (c.requires.schedule
-    ∙ (sym (ap (λ (v : SearchValue). schedule_of v.path.news) c.self.view_is)
-    ∙ (ap (λ (p : PathValue). schedule_of p.news) back.2 ∙ longer_schedule path.news back.0))) in
-    let shorter : c.pop-latest.new.self.items ≡ schedule_of path.news =
-    popped c.self.inside.schedule.items c.pop-latest.new.self.items (schedule_of path.news)
-    c.pop-latest.result back.0.cpu _ _ c.pop-latest.ensures.items c.pop-latest.ensures.cases
-    c.self.inside.schedule.ok.0 whole in
-    record {
-      path = path;
-      cpu = c.in-Some.cpu;
-      visited = later;
-      back = subst (λ (v : SearchValue). IsBack v.path (Some c.in-Some.cpu) path) c.self.view_is back;
-      is =
-          ap (λ (s : List ℕ). search_at path s (c.cpu.inside.0 + 1) later) shorter
-          ∙ ap (λ (n : ℕ). search_at path (schedule_of path.news) (n + 1) later) c.cpu.view_is;
-      kept =
-          subst (λ (v : SearchValue). (later.is_on ≡ v.visited.is_on) × (later.keys ≡ v.visited.keys))
-          c.self.view_is c.go_back.ensures.same;
-      stops =
-          subst (λ (v : SearchValue). AreSameStops v.visited.stops later.stops) c.self.view_is
-          c.go_back.ensures.kept;
-      way =
-          subst (λ (v : SearchValue). (g : Setting) (news : List Record) (r : Record)
-          → AreFollowed g (news ++ r ∷ []) v.visited → AreFollowed g news later) c.self.view_is
-          c.go_back.ensures.back;
-    }
+returns-in-Some g c =
+    let v = c.args.self.now in
+    λ next. gone_up (g.A.Aim.shows c.args.aim.now v.path.setting) c.args.seed
+    (g.T.Places.keeps c.leave.new.self c.args.aim.now) v.path _ c.in-Some.cpu next v.visited
+    c.is_played.ensures c.requires.leaving c.in-Some.ensures
+    (popped v.path c.back.new.self c.in-Some.cpu v.schedule c.pop.new.self c.requires.schedule
+    c.in-Some.ensures c.pop.ensures)
+    (ap (λ (k : ℕ). k + 1) (c.number_at.ensures.is
+    ∙ (ap (λ (n : ℕ). number_at n c.args.seed c.len.result c.cpu.inside.0) c.requires.processors
+    ∙ (ap (λ (d : ℕ). number_at (length v.path.setting.scripts) c.args.seed d c.cpu.inside.0)
+    c.len.ensures
+    ∙ ap (λ (k : ℕ). number_at (length v.path.setting.scripts) c.args.seed
+    (length c.pop.new.self) k) c.cpu.view_is))))
+    c.go_back.ensures.same.0 c.go_back.ensures.same.1 c.go_back.ensures.kept c.go_back.ensures.back
+    c.in_ok-leave.ensures
+
+pub returns-in-None : goal.returns-in-None
+returns-in-None g c =
+    let v = c.args.self.now in
+    λ next. all_done (g.A.Aim.shows c.args.aim.now v.path.setting) c.args.seed v.path c.back.new.self
+    v.visited c.requires.leaving c.in-None.ensures

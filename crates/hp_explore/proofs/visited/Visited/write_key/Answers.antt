@@ -1,6 +1,6 @@
 -- The key has the numbers and the state of the place.
 use Rattle.std.proofs.Common.{◌≡◌, true, ◌∙◌}
-use Rattle.hp_renumbering.specs.Numberings.{number_of}
+use Rattle.hp_laws.specs.Numberings.{number_of}
 use Rattle.hp_explore.specs.LatestOps.{latest_here}
 use Rattle.hp_explore.proofs.LatestPaths.{here_at, numbers_here}
 use Rattle.hp_explore.proofs.PlaceKeys.{key_written}

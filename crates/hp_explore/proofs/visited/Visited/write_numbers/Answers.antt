@@ -1,5 +1,5 @@
 -- The place has its numbers.
-use Rattle.hp_renumbering.specs.Numberings.{number_of}
+use Rattle.hp_laws.specs.Numberings.{number_of}
 use Rattle.hp_explore.specs.LatestOps.{latest_here}
 use Rattle.hp_explore.proofs.LatestPaths.{here_at, numbers_here}
 use Rattle.hp_explore.proofs.PlaceKeys.{numbers_made}

@@ -1,5 +1,5 @@
 -- The place is left at once, or gets its frame.
-use Rattle.std.proofs.Common.{◌-◌, length, reverse, ap, refl, sym, true, ◌∙◌, arith}
+use Rattle.std.proofs.Common.{length, reverse, ap, refl, sym, true, ◌∙◌, arith}
 use Rattle.hp_explore.specs.Frames.{frames_of}
 use Rattle.hp_states.specs.Frames.{IsEntered}
 use Rattle.hp_states.specs.Places.{memory_at}

@@ -1,5 +1,5 @@
 -- All scripts are at their ends, and the schedule is the part's.
-use Rattle.std.proofs.Common.{◌≡◌, length, true, arith}
+use Rattle.std.proofs.Common.{◌≡◌, length, arith}
 use Rattle.hp_states.proofs.Noting.{end_here, no_end_here}
 use Rattle.hp_explore.proofs.walk.Walk.is_end.Goals as goal
 

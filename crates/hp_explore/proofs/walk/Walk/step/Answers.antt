@@ -1,5 +1,5 @@
 -- The latest place makes its turn; where there is none all is walked.
-use Rattle.std.proofs.Common.{◌≡◌, ◌+◌, ◌∷◌, ◌++◌, Global, Option, Some, Vec, arith, option_to_list, reverse, sym, ◌∙◌}
+use Rattle.std.proofs.Common.{◌≡◌, ◌∷◌, ◌++◌, Global, Option, Some, Vec, arith, option_to_list, reverse, sym, ◌∙◌}
 use Rattle.hp_explore.specs.Frames.{IsWalking, frames_of}
 use Rattle.hp_states.specs.declared.frames.Level.{Level}
 use Rattle.hp_explore.specs.declared.walk.Walk.{Walk}

@@ -22,7 +22,7 @@ told c met is =
     met_told p.setting wanted c.args.self.now.budget c.args._schedule.now p.news met
     c.requires.schedule c.requires.admitted
     (end_told p wanted c.args.processors c.in_ok-outcome.outcome met c.is_played.ensures
-    (c.in_ok-is_over.ensures.0 c.if-not-branch.false) c.requires.processors c.in_ok-outcome.ensures
+    (c.is_over.ensures.0 c.if-not-is_over.false) c.requires.processors c.in_ok-outcome.ensures
     (rw (← c.cpus.ensures) (rw c.scripts.ensures at is)))
 
 pub returns-clause-found : goal.returns-clause-found

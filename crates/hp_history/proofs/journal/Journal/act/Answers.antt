@@ -28,24 +28,21 @@ made c = record {
   layout = c.step.ensures.layout;
   noted = c.in_ok-reply.ensures.noted;
   tag =
-      tag-next (seen c.self.inside) c.self.inside.count c.next_serial-serial.result c.args.event.now
-      c.mark_of.result c.new-entry.result (rw (← c.self.view_is) at c.next_serial-serial.ensures)
-      c.self.invariant.1 c.mark_of.ensures (c.new-entry.ensures.tag c.self.inside.before);
+      tag-next (seen c.self.inside) c.args.event.now c.new-entry.result (rw (← c.self.view_is) at
+      c.next_serial-serial.ensures) c.self.invariant.1 c.mark_of.ensures
+      (c.new-entry.ensures.tag c.self.inside.before);
   start = c.new-entry.ensures.start ∙ c.len-start.ensures;
 }
 
 pub keep_step-requires-clause-start : goal.keep_step-requires-clause-start
 keep_step-requires-clause-start c =
     let here = (goal.at.keep_step-requires-clause-start c).After-is_step in
-    made_start (seen c.self.inside) c.self.inside.entries.items c.self.inside.deltas.deltas c.args.cpu
-    (receipt here) c.new-entry.result c.step.new.self c.step.new.tape.deltas (made here)
+    made_start (made here)
 
 pub keep_step-requires-clause-same : goal.keep_step-requires-clause-same
 keep_step-requires-clause-same c =
     let here = (goal.at.keep_step-requires-clause-same c).After-is_step in
-    λ none. made_off (seen c.self.inside) c.self.inside.entries.items c.self.inside.deltas.deltas c.args.cpu
-    (receipt here) c.new-entry.result c.step.new.self c.step.new.tape.deltas (made here)
-    (sym c.is_step.ensures ∙ none)
+    λ none. made_off (made here) (sym c.is_step.ensures ∙ none)
 
 -- the same where the journal has changed
 abbrev last_receipt : After-and-past → Receipt
@@ -75,12 +72,8 @@ invariant_of-self-2 c =
     let here = (goal.at.invariant_of-self-2 c).After-and-past in
     let step = (goal.at.invariant_of-self-2 c).After-is_step in
     rw c.and-past.ensures (
-      made_fields (seen c.self.inside) c.self.inside.entries.items c.self.inside.deltas.deltas c.args.cpu
-          (receipt step) c.new-entry.result c.step.new.self c.step.new.tape.deltas c.is_step.result
-          c.keep_step.new.memory (longer here) c.keep_step.new.entries.items c.keep_step.new.deltas.deltas
-          (made step) (left here),
-      one_more c.self.inside.past.history (record_of c.args.cpu (last_receipt here)) c.self.inside.count
-          c.self.invariant.1,
+      made_fields (made step) (left here),
+      one_more c.self.inside.past.history (record_of c.args.cpu (last_receipt here)) c.self.invariant.1,
     )
 
 pub returns-clause-ok : goal.returns-clause-ok
@@ -88,7 +81,4 @@ returns-clause-ok c =
     let here = (goal.at.returns-clause-ok c).After-and-past in
     let step = (goal.at.returns-clause-ok c).After-is_step in
     rw (← c.self.view_is)
-    (rw c.and-past.ensures (made_answered (seen c.self.inside) c.self.inside.entries.items
-    c.self.inside.deltas.deltas c.args.cpu (receipt step) c.new-entry.result c.step.new.self
-    c.step.new.tape.deltas c.is_step.result c.keep_step.new.memory (longer here) c.keep_step.new.entries.items
-    c.keep_step.new.deltas.deltas (made step) (left here)))
+    (rw c.and-past.ensures (made_answered (made step) (left here)))

@@ -1,9 +1,7 @@
 -- A Cancel goes back where it is not refused and its operation is sole.
-use Rattle.std.proofs.Common.{◌≡◌, true, false, map, sym, subst, ◌∙◌}
+use Rattle.std.proofs.Common.{◌≡◌, map, sym, ◌∙◌}
 use Rattle.hp_units.specs.History.{net_of}
 use Rattle.hp_units.specs.Marks.{sole_at, tag_of}
-use Rattle.hp_history.specs.Course.{CourseValue}
-use Rattle.hp_history.specs.Kept.{may_cancel}
 use Rattle.hp_history.specs.Seen.{seen}
 use Rattle.hp_history.proofs.Cuts.{cancel_sole, cancel_other, cancel_refused, entries_numbered}
 use Rattle.hp_history.proofs.journal.Journal.cancel_cut.Goals as goal
@@ -23,8 +21,7 @@ pub returns-then-may_cancel-clause-back : goal.returns-then-may_cancel-clause-ba
 returns-then-may_cancel-clause-back c =
     let here = (goal.at.returns-then-may_cancel-clause-back c).After-sole_place in
     rw (← c.self.view_is)
-    (cancel_sole (seen c.self.inside) c.args.cpu c.args.op c.sole_place.result c.self.invariant.0.history
-    (subst (λ (m : CourseValue). may_cancel m.layout m.state c.args.cpu c.args.op ≡ true) (sym c.self.view_is)
+    (cancel_sole c.args.cpu c.args.op c.sole_place.result c.self.invariant.0.history (rw (← c.self.view_is) at
     (sym c.may_cancel.ensures ∙ c.if-may_cancel.true)) (place here))
 
 pub returns-then-may_cancel-clause-step : goal.returns-then-may_cancel-clause-step
@@ -35,6 +32,5 @@ returns-then-may_cancel-clause-step c =
 
 pub returns-else-may_cancel-clause-step : goal.returns-else-may_cancel-clause-step
 returns-else-may_cancel-clause-step c =
-    rw (← c.self.view_is) (cancel_refused (seen c.self.inside) c.args.cpu c.args.op c.self.invariant.0.history
-    (subst (λ (m : CourseValue). may_cancel m.layout m.state c.args.cpu c.args.op ≡ false)
-    (sym c.self.view_is) (sym c.may_cancel.ensures ∙ c.if-may_cancel.false)))
+    rw (← c.self.view_is) (cancel_refused c.args.cpu c.args.op c.self.invariant.0.history (rw
+    (← c.self.view_is) at (sym c.may_cancel.ensures ∙ c.if-may_cancel.false)))

@@ -16,8 +16,7 @@ below c =
       arith,
       c.if-at-entries.false,
       ap (λ (es : List Entry). length es) c.as_slice-entries.ensures.value,
-      entry_count m.layout m.base m.before (net_of m.history) c.self.inside.entries.items
-          c.self.inside.deltas.deltas c.self.invariant.0.journal,
+      entry_count c.self.invariant.0.journal,
     )
 
 -- where its deltas begin, and where those of the next one do
@@ -40,8 +39,7 @@ pub between-requires-clause-within : goal.between-requires-clause-within
 between-requires-clause-within c =
     let here = (goal.at.between-requires-clause-within c).After-start_of-end in
     let m = seen c.self.inside in
-    rw (c.as_slice-deltas.ensures, end here) (start_within m.layout m.base m.before (net_of m.history)
-    c.self.inside.entries.items c.self.inside.deltas.deltas (c.args.at + 1) c.self.invariant.0.journal)
+    rw (c.as_slice-deltas.ensures, end here) (start_within (c.args.at + 1) c.self.invariant.0.journal)
 
 pub returns : goal.returns
 returns c =

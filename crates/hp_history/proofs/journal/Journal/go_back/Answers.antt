@@ -39,8 +39,7 @@ pub back-requires-clause-mark : goal.back-requires-clause-mark
 back-requires-clause-mark c =
     let here = (goal.at.back-requires-clause-mark c).After-start_of-start in
     let m = seen c.self.inside in
-    rw (start here) (start_within m.layout m.base m.before (net_of m.history) c.self.inside.entries.items
-    c.self.inside.deltas.deltas c.args.keep c.self.invariant.0.journal)
+    rw (start here) (start_within c.args.keep c.self.invariant.0.journal)
 
 pub back-requires-clause-leads : goal.back-requires-clause-leads
 back-requires-clause-leads c =
@@ -87,11 +86,8 @@ invariant_of-self c =
     let here = (goal.at.invariant_of-self c).After-start_of-start in
     let end = (goal.at.invariant_of-self c).After-and-past in
     rw c.and-past.ensures (
-      cut_fields (seen c.self.inside) c.self.inside.entries.items c.self.inside.deltas.deltas c.args.cpu
-          c.args.keep (receipt end) c.back.new.self (longer end) c.truncate.new.self.items
-          c.back.new.tape.deltas (back end (start here) (cut here) (leads here)),
-      one_more c.self.inside.past.history (record_of c.args.cpu (receipt end)) c.self.inside.count
-          c.self.invariant.1,
+      cut_fields (back end (start here) (cut here) (leads here)),
+      one_more c.self.inside.past.history (record_of c.args.cpu (receipt end)) c.self.invariant.1,
     )
 
 pub returns-clause-answered : goal.returns-clause-answered
@@ -99,15 +95,11 @@ returns-clause-answered c =
     let here = (goal.at.returns-clause-answered c).After-start_of-start in
     let end = (goal.at.returns-clause-answered c).After-and-past in
     rw (← c.self.view_is)
-    (rw c.and-past.ensures (cut_answered (seen c.self.inside) c.self.inside.entries.items
-    c.self.inside.deltas.deltas c.args.cpu c.args.keep (receipt end) c.back.new.self (longer end)
-    c.truncate.new.self.items c.back.new.tape.deltas (back end (start here) (cut here) (leads here))))
+    (rw c.and-past.ensures (cut_answered (back end (start here) (cut here) (leads here))))
 
 pub returns-clause-back : goal.returns-clause-back
 returns-clause-back c =
     let here = (goal.at.returns-clause-back c).After-start_of-start in
     let end = (goal.at.returns-clause-back c).After-and-past in
     rw (← c.self.view_is)
-    (rw c.and-past.ensures (cut_undone (seen c.self.inside) c.self.inside.entries.items
-    c.self.inside.deltas.deltas c.args.cpu c.args.keep (receipt end) c.back.new.self (longer end)
-    c.truncate.new.self.items c.back.new.tape.deltas (back end (start here) (cut here) (leads here))))
+    (rw c.and-past.ensures (cut_undone (back end (start here) (cut here) (leads here))))

@@ -10,9 +10,7 @@ invariant_of-self c =
     let es = c.shrink_to_fit.new.self.items in
     let ds = c.emptied.new.tape.deltas in
     rw c.start-past.ensures (
-      sealed_course m c.self.inside.entries.items c.self.inside.deltas.deltas
-          (c.self.inside.before + c.self.inside.count) es ds
-          c.self.invariant.0 (ap (λ n. c.self.inside.before + n) c.self.invariant.1)
+      sealed_course c.self.invariant.0 (ap (λ n. c.self.inside.before + n) c.self.invariant.1)
           (c.shrink_to_fit.ensures.items ∙ c.clear.ensures.items) c.emptied.ensures,
       refl,
     )

@@ -9,7 +9,7 @@ invariant_of-result c =
     let es = c.new.result.items in
     let ds = c.in_ok-deltas.deltas.deltas in
     rw c.start-past.ensures (
-      new_course v.layout v.state c.args.before v [] es ds c.is_placed.ensures.layout
-          c.is_placed.ensures.placed refl refl c.new.ensures.items c.in_ok-deltas.ensures.none (omega arith),
+      new_course c.args.before v [] c.is_placed.ensures.layout c.is_placed.ensures.placed refl refl
+          c.new.ensures.items c.in_ok-deltas.ensures.none (omega arith),
       refl,
     )

@@ -1,10 +1,9 @@
 -- The three replies to an undo, and where each cuts.
-use Rattle.std.proofs.Common.{◌≡◌, ◌<◌, ◌≤◌, ◌-◌, true, false, List, length, ap, sym, subst, ◌∙◌, arith}
+use Rattle.std.proofs.Common.{◌≡◌, ◌<◌, ◌≤◌, ◌-◌, true, false, List, length, ap, sym, ◌∙◌, arith}
 use Rattle.hp_units.specs.LayoutParts.{LayoutParts}
 use Rattle.hp_history.specs.declared.entries.Entry.{Entry}
 use Rattle.hp_history.specs.Entries.{tags_of}
 use Rattle.hp_history.specs.Kept.{is_gone}
-use Rattle.hp_history.specs.Course.{CourseValue}
 use Rattle.hp_history.specs.Seen.{seen}
 use Rattle.hp_history.proofs.Cuts.{all_steps, entries_numbered, undo_done, undo_gone, undo_no_cpu}
 use Rattle.hp_history.proofs.journal.Journal.undo_cut.Goals as goal
@@ -25,10 +24,8 @@ returns-then-cpu-cpus c =
       c.cpu.view_is,
     ) in
     rw (← c.self.view_is)
-    (undo_no_cpu (seen c.self.inside) c.args.cpu (length c.as_slice-entries.result.now) c.args.serial
-    (all_steps (seen c.self.inside) c.self.inside.entries.items c.self.inside.deltas.deltas
-    (length c.as_slice-entries.result.now) c.self.invariant.0
-    (ap (λ (es : List Entry). length es) c.as_slice-entries.ensures.value)) out)
+    (undo_no_cpu (seen c.self.inside) c.args.cpu c.args.serial (all_steps c.self.invariant.0 (ap
+    (λ (es : List Entry). length es) c.as_slice-entries.ensures.value)) out)
 
 pub returns-then-is_gone : goal.returns-then-is_gone
 returns-then-is_gone c =
@@ -41,13 +38,10 @@ returns-then-is_gone c =
       c.cpu.view_is,
     ) in
     let gone : is_gone (seen c.self.inside) c.args.serial ≡ true =
-    subst (λ (m : CourseValue). is_gone m c.args.serial ≡ true) (sym c.self.view_is)
-    (sym c.is_gone.ensures ∙ c.if-is_gone.true) in
+    rw (← c.self.view_is) at (sym c.is_gone.ensures ∙ c.if-is_gone.true) in
     rw (← c.self.view_is)
-    (undo_gone (seen c.self.inside) c.args.cpu (length c.as_slice-entries.result.now) c.args.serial
-    (all_steps (seen c.self.inside) c.self.inside.entries.items c.self.inside.deltas.deltas
-    (length c.as_slice-entries.result.now) c.self.invariant.0
-    (ap (λ (es : List Entry). length es) c.as_slice-entries.ensures.value)) inside gone)
+    (undo_gone (seen c.self.inside) c.args.cpu c.args.serial (all_steps c.self.invariant.0
+    (rw c.as_slice-entries.ensures.value)) inside gone)
 
 pub returns-else-is_gone : goal.returns-else-is_gone
 returns-else-is_gone c =
@@ -60,16 +54,12 @@ returns-else-is_gone c =
       c.cpu.view_is,
     ) in
     let there : is_gone (seen c.self.inside) c.args.serial ≡ false =
-    subst (λ (m : CourseValue). is_gone m c.args.serial ≡ false) (sym c.self.view_is)
-    (sym c.is_gone.ensures ∙ c.if-is_gone.false) in
+    rw (← c.self.view_is) at (sym c.is_gone.ensures ∙ c.if-is_gone.false) in
     let len = ap (λ (es : List Entry). length es) c.as_slice-entries.ensures.value in
     let keep = c.kept_len-keep.result in
     let same : tags_of c.self.inside.before c.as_slice-entries.result.now
     ≡ tags_of c.self.inside.before c.self.inside.entries.items = rw c.as_slice-entries.ensures.value in
-    rw (← c.self.view_is) (undo_done (seen c.self.inside) c.self.inside.entries.items
-    c.self.inside.deltas.deltas c.args.cpu c.args.serial keep
-    ((length c.as_slice-entries.result.now) - keep)
-    c.self.invariant.0 inside there (omega (arith, c.kept_len-keep.ensures.within, len))
-    (omega (arith, c.kept_len-keep.ensures.within, len))
-    (rw (← same) c.kept_len-keep.ensures.above)
-    (rw (← same) c.kept_len-keep.ensures.below))
+    rw (← c.self.view_is) (undo_done c.args.cpu c.args.serial keep
+    ((length c.as_slice-entries.result.now) - keep) c.self.invariant.0 inside there
+    (omega (arith, c.kept_len-keep.ensures.within, len)) (omega (arith, c.kept_len-keep.ensures.within, len))
+    (rw (← same) c.kept_len-keep.ensures.above) (rw (← same) c.kept_len-keep.ensures.below))

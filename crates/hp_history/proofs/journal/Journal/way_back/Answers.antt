@@ -16,8 +16,7 @@ reach c =
       arith,
       c.if-at-entries.false,
       ap (λ (es : List Entry). length es) c.as_slice-entries.ensures.value,
-      entry_count m.layout m.base m.before (net_of m.history) c.self.inside.entries.items
-          c.self.inside.deltas.deltas c.self.invariant.0.journal,
+      entry_count c.self.invariant.0.journal,
     )
 
 start : (c : After-start_of-start)
@@ -29,8 +28,7 @@ pub between-requires-clause-order : goal.between-requires-clause-order
 between-requires-clause-order c =
     let here = (goal.at.between-requires-clause-order c).After-start_of-start in
     let m = seen c.self.inside in
-    rw (start here, c.len-count.ensures) (start_within m.layout m.base m.before (net_of m.history)
-    c.self.inside.entries.items c.self.inside.deltas.deltas c.args.at c.self.invariant.0.journal)
+    rw (start here, c.len-count.ensures) (start_within c.args.at c.self.invariant.0.journal)
 
 pub returns : goal.returns
 returns c =

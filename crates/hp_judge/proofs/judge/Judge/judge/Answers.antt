@@ -7,6 +7,4 @@ use Rattle.hp_judge.proofs.judge.Judge.judge.Goals as goal
 pub returns-clause-follows : goal.returns-clause-follows
 returns-clause-follows c = λ log h.
     subst (λ (m : MachineSize). FollowsAt m (log ++ c.args.event.now ∷ []) c.apply.new.self)
-    (sym c.apply.ensures.size)
-    (follows_on c.args.self.now.size log c.args.event.now c.args.self.now c.apply.new.self h
-    c.apply.ensures.steps)
+    (sym c.apply.ensures.size) (follows_on _ log _ _ _ h c.apply.ensures.steps)

@@ -8,11 +8,8 @@ pub returns-then-not-is_well_formed-clause-follows :
     goal.returns-then-not-is_well_formed-clause-follows
 returns-then-not-is_well_formed-clause-follows c = λ log h.
     subst (λ (m : MachineSize). FollowsAt m (log ++ c.args.event.now ∷ []) c.skip.new.self)
-    (sym c.skip.ensures.size)
-    (follows_on c.args.self.now.size log c.args.event.now c.args.self.now c.skip.new.self h
-    c.skip.ensures.steps)
+    (sym c.skip.ensures.size) (follows_on _ log _ _ _ h c.skip.ensures.steps)
 
 pub returns-clause-follows : goal.returns-clause-follows
 returns-clause-follows c = λ log h.
-    c.judge.ensures.follows log (follows_grown log c.args.self.now c.reserve.new.self c.reserve.ensures.same
-    h)
+    c.judge.ensures.follows log (follows_grown log _ _ c.reserve.ensures.same h)

@@ -1,6 +1,6 @@
 -- One more order is looked at.
 use Rattle.std.proofs.Common.{◌≡◌, ◌+◌, ◌^◌, ◌<◌, ℕ, Bool, false, sym, ◌∙◌, ap, arith}
-use Rattle.hp_numbers.specs.Numbers.{ancestor}
+use Rattle.hp_units.specs.Numbers.{ancestor}
 use Rattle.hp_units.specs.Refusals.{is_free_start}
 use Rattle.hp_plain.proofs.Ranges.{any-below_step}
 use Rattle.std.proofs.Math.Nat.{div-mul-le_self}

@@ -1,6 +1,6 @@
 use Rattle.std.proofs.Common.{◌≡◌, ◌+◌, ◌-◌}
 use Rattle.std.specs.List.{list_any, range_with_len}
-use Rattle.hp_numbers.specs.Numbers.{ancestor}
+use Rattle.hp_units.specs.Numbers.{ancestor}
 use Rattle.hp_units.specs.Refusals.{is_free_start, is_in_free_block}
 use Rattle.hp_layers.proofs.frames.Frames.free_order.Given as goal
 

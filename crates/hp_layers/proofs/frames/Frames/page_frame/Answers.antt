@@ -2,7 +2,7 @@ use Rattle.std.proofs.Common.{arith}
 use Rattle.hp_units.specs.declared.rows.Pool.TheVariants.{Nm as NmPool, Mm as MmPool}
 use Rattle.hp_units.specs.ProcessorLists.{take_one}
 use Rattle.hp_tape.specs.Bounds.{take_one_bound}
-use Rattle.hp_cpus.proofs.Undoes.{take-few}
+use Rattle.hp_buddy.proofs.Undoes.{take-few}
 use Rattle.hp_layers.specs.Frames.{free_of, normal_frame}
 use Rattle.hp_layers.proofs.Taken.{IsListEmpty, list-empty, list-room, then-taken}
 use Rattle.hp_layers.proofs.frames.Frames.page_frame.Goals as goal

@@ -1,4 +1,4 @@
-use Rattle.hp_lemmas.proofs.Geometry.{pageblock_in}
+use Rattle.hp_units.proofs.Geometry.{pageblock_in}
 use Rattle.hp_layers.proofs.frames.Frames.put_one_room.Goals as goal
 
 pub kind-kind-requires : goal.kind-kind-requires

@@ -1,7 +1,7 @@
 use Rattle.std.proofs.Common.{List, Option, ℕ}
 use Rattle.hp_units.specs.LayoutParts.{LayoutParts}
 use Rattle.hp_pages.specs.Pages.{PagesValue}
-use Rattle.hp_blocks.specs.Blocks.{BlocksValue}
+use Rattle.hp_pages.specs.Blocks.{BlocksValue}
 use Rattle.hp_layers.specs.declared.frames.Frames.{Frames}
 use Rattle.hp_layers.specs.declared.layers.Layers.{Layers}
 use Rattle.hp_layers.proofs.layers.Layers.copy.Goals as goal

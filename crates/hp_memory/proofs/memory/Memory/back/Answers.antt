@@ -2,7 +2,7 @@ use Rattle.std.proofs.Common.{◌≡◌, drop, sym, subst}
 use Rattle.hp_units.specs.Memory.{Memory}
 use Rattle.hp_layers.specs.Layers.{ArePlaced, state_of}
 use Rattle.hp_memory.specs.Memory.{LeadsBack, MemoryValue}
-use Rattle.hp_memory.proofs.Steps.{led_back}
+use Rattle.hp_memory.proofs.MemorySteps.{led_back}
 use Rattle.hp_memory.proofs.memory.Memory.back.Goals as goal
 use Rattle.hp_memory.proofs.memory.Memory.back.Goals.{After-unwind}
 

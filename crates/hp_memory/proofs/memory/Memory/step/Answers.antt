@@ -1,10 +1,7 @@
-use Rattle.std.proofs.Common.{◌≡◌, OnOk, subst}
+use Rattle.std.proofs.Common.{OnOk}
 use Rattle.std.proofs.lemmas.Result.{on_ok_weaker}
 use Rattle.hp_units.specs.Step.{step}
-use Rattle.hp_tape.specs.Bounds.{delta_bound}
-use Rattle.hp_tape.specs.Deltas.{frame_view_of}
-use Rattle.hp_layers.specs.Layers.{AreNoted, state_of}
-use Rattle.hp_memory.specs.Memory.{MemoryValue}
+use Rattle.hp_layers.specs.Layers.{state_of}
 use Rattle.hp_layers.proofs.States.{IsKept, kept_ok, kept_placed}
 use Rattle.hp_memory.proofs.memory.Memory.step.Goals as goal
 use Rattle.hp_memory.proofs.memory.Memory.step.Goals.{After-step}
@@ -27,8 +24,7 @@ pub returns-clause-state : goal.returns-clause-state
 returns-clause-state c =
     let m = c.self.inside.layers in
     let after = step m.layout (state_of m) c.args.serial c.args.cpu c.args.event.now in
-    subst (λ (v : MemoryValue). OnOk c.step.result (state_of c.step.new.self
-    ≡ (step v.layout v.state c.args.serial c.args.cpu c.args.event.now).memory)) c.self.view_is
+    rw (← c.self.view_is)
     (on_ok_weaker c.step.result (λ (k : IsKept m c.step.new.self c.args.event.now after c.args.tape.now.deltas
     c.step.new.tape.deltas). k.state) (here (goal.at.returns-clause-state c).After-step))
 
@@ -36,9 +32,6 @@ pub returns-clause-noted : goal.returns-clause-noted
 returns-clause-noted c =
     let m = c.self.inside.layers in
     let after = step m.layout (state_of m) c.args.serial c.args.cpu c.args.event.now in
-    subst (λ (v : MemoryValue). OnOk c.step.result (AreNoted v.layout
-    (delta_bound v.layout v.state c.args.event.now) c.args.tape.now.deltas c.step.new.tape.deltas
-    (frame_view_of v.layout (state_of c.step.new.self)) (frame_view_of v.layout v.state)))
-    c.self.view_is
+    rw (← c.self.view_is)
     (on_ok_weaker c.step.result (λ (k : IsKept m c.step.new.self c.args.event.now after c.args.tape.now.deltas
     c.step.new.tape.deltas). k.noted) (here (goal.at.returns-clause-noted c).After-step))

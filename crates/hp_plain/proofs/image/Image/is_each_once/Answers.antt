@@ -1,7 +1,7 @@
 use Rattle.std.proofs.Common.{subst, sym}
 use Rattle.hp_units.specs.Memory.{Memory}
 use Rattle.hp_plain.specs.Image.{Pictured}
-use Rattle.hp_placement.specs.Placing.{ArePlacedOnce}
+use Rattle.hp_plain.specs.Placing.{ArePlacedOnce}
 use Rattle.hp_plain.proofs.Values.{memory_value}
 use Rattle.hp_plain.proofs.WellPlaced.{IsStart, has_free, placed_once, twice_cached, twice_free, twice_kernel, twice_pages}
 use Rattle.hp_plain.proofs.image.Image.is_each_once.Goals as goal

@@ -1,6 +1,6 @@
 use Rattle.std.proofs.Common.{subst}
 use Rattle.hp_units.specs.Memory.{Memory}
-use Rattle.hp_placement.specs.Placing.{AreListsJoined}
+use Rattle.hp_plain.specs.Placing.{AreListsJoined}
 use Rattle.hp_plain.proofs.Values.{memory_value}
 use Rattle.hp_plain.proofs.WellPlaced.{decided}
 use Rattle.hp_plain.proofs.image.Image.is_well_placed.Goals as goal

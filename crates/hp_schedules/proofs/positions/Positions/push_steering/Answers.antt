@@ -4,7 +4,7 @@ use Rattle.std.proofs.lemmas.List.{append_assoc}
 use Rattle.std.proofs.lemmas.Option.{slice_get_read}
 use Rattle.std.proofs.lemmas.Result.{IfOk-weaker}
 use Rattle.hp_units.specs.Receipts.{receipts_of}
-use Rattle.hp_renumbering.specs.Numberings.{number_of}
+use Rattle.hp_laws.specs.Numberings.{number_of}
 use Rattle.hp_schedules.specs.Cursors.{frames_ahead, steering_of}
 use Rattle.hp_schedules.proofs.Placed.{steered_at}
 use Rattle.hp_schedules.proofs.positions.Positions.push_steering.Goals as goal

@@ -37,10 +37,10 @@ invariant_of-self-2 c =
     let was = ap (λ (f : Ending). f.count) c.index_mut-end.ensures.value in
     let room = rw (← c.self.view_is) at c.requires.room in
     let trailed =
-    trail_pushed c.self.inside.trail.shares.items c.push.new.self.shares.items
+    trail_pushed c.self.inside.trail.shares.items c.push.new.self.items
     (record { end = c.args.place; count = c.args.count }) (length c.self.inside.ends.items)
     (length (set c.self.inside.ends.items c.args.place more)) c.self.inside.total
-    (c.self.inside.total + c.args.count) c.in_ok-push.ensures.ok c.self.invariant.3
+    (c.self.inside.total + c.args.count) c.in_ok-push.ensures.items c.self.invariant.3
     (omega (arith, within, length-set c.self.inside.ends.items c.args.place more))
     (omega (arith, length-set c.self.inside.ends.items c.args.place more)) c.self.invariant.4 refl in (
       omega (
@@ -66,4 +66,4 @@ pub returns-clause-trail : goal.returns-clause-trail
 returns-clause-trail c =
     rw (← c.self.view_is) (keeps_at _ _ c.args.place c.args.count
     (put_at c.self.inside.ends.items c.args.place c.args.count c.index_mut-end.result.now
-    (rw (← c.self.view_is) at c.requires.place) c.index_mut-end.ensures.value) c.in_ok-push.ensures.ok)
+    (rw (← c.self.view_is) at c.requires.place) c.index_mut-end.ensures.value) c.in_ok-push.ensures.items)

@@ -24,10 +24,10 @@ invariant_of-self-2 c =
     let longer =
     ap (λ (xs : List Ending). length xs) pushed ∙ length_push ends c.in_ok-entry.entry in
     let trailed =
-    trail_pushed c.self.inside.trail.shares.items c.push.new.self.shares.items
+    trail_pushed c.self.inside.trail.shares.items c.push-2.new.self.items
     (record { end = c.len-end.result; count = 1 }) (length ends) (length c.push_reserved.new.self.items)
     c.self.inside.total (c.self.inside.total + 1)
-    (rw c.add_end.ensures at c.in_ok-push.ensures.ok)
+    c.in_ok-push-2.ensures.items
     c.self.invariant.3 (omega (arith, longer, c.len-end.ensures, c.self.inside.ends.ok.0))
     (omega (arith, longer)) c.self.invariant.4 refl in (
       total.0,
@@ -56,4 +56,4 @@ returns-clause-trail c =
     (schedule_of c.args.records.now) (rw (← c.self.view_is) at c.requires.none)
     c.in_ok-entry.ensures.outcome c.in_ok-entry.ensures.count c.in_ok-entry.ensures.first
     (rw c.in_ok-reserve.ensures.items at c.push_reserved.ensures.items))
-    (rw (c.add_end.ensures, c.len-end.ensures, c.self.inside.ends.ok.0) at c.in_ok-push.ensures.ok))
+    (rw (c.len-end.ensures, c.self.inside.ends.ok.0) at c.in_ok-push-2.ensures.items))

@@ -1,7 +1,6 @@
 -- The entry stands on the exchanges before its last.
-use Rattle.std.proofs.Common.{List, ap, arith, length}
+use Rattle.std.proofs.Common.{ap, arith, length}
 use Rattle.std.proofs.lemmas.Option.{slice_get_within}
-use Rattle.hp_units.specs.declared.replies.Receipt.{Receipt}
 use Rattle.hp_states.specs.Exchanges.{at_end, exchange_below}
 use Rattle.hp_states.proofs.Exchanged.{before_entry, before_none}
 use Rattle.hp_states.proofs.Numberings.{lists_many}
@@ -22,8 +21,4 @@ returns-in-None-clause-before c =
 
 pub returns-in-None-clause-within : goal.returns-in-None-clause-within
 returns-in-None-clause-within c =
-    omega (
-      arith,
-      lists_many exchange_below at_end c.self.inside.entries.items,
-      ap (λ (chains : List (List Receipt)). length chains) c.self.view_is,
-    )
+    omega (arith, lists_many exchange_below at_end c.self.inside.entries.items, ap length c.self.view_is)

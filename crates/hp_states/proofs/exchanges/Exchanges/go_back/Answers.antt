@@ -1,5 +1,5 @@
 -- The processor's exchanges lose the last.
-use Rattle.std.proofs.Common.{◌<◌, Some, arith, length, refl, slice_get, slice_set, subst, sym, ◌≡◌, ◌∙◌}
+use Rattle.std.proofs.Common.{◌<◌, arith, length, refl, subst, sym, ◌∙◌}
 use Rattle.std.proofs.lemmas.Option.{slice_get_read}
 use Rattle.hp_states.specs.Exchanges.{AreExchanged}
 use Rattle.hp_states.proofs.Exchanged.{among_set, exchanged_back, exchanged_back_past}
@@ -14,20 +14,16 @@ returns-then-cpu-len-clause-back c =
     (subst (AreExchanged g _) (sym c.self.view_is) are))
 
 pub invariant_of-self : goal.invariant_of-self
-invariant_of-self c =
-    among_set c.self.inside.chains c.self.inside.here.items c.cpu.inside.0 c.before-before.result
-    c.before-before.ensures.within c.self.invariant
+invariant_of-self c = among_set _ _ c.cpu.inside.0 _ c.before-before.ensures.within c.self.invariant
 
 pub returns-clause-back : goal.returns-clause-back
 returns-clause-back c =
     let within : c.cpu.inside.0 < length c.self.inside.here.items =
     omega (arith, c.if-cpu-len.false, c.len.ensures, c.self.inside.here.ok.0) in
-    let was_here : slice_get c.self.inside.here.items c.cpu.inside.0 ≡ Some c.index-was.result.now =
-    slice_get_read c.self.inside.here.items (length c.self.inside.here.items) c.cpu.inside.0
-    c.index-was.result.now refl within c.index-was.ensures in
+    let was_here =
+    slice_get_read c.self.inside.here.items _ c.cpu.inside.0 c.index-was.result.now refl within
+    c.index-was.ensures in
     λ g news r whose are. exchanged_back g news r
-    (record { chains = c.self.inside.chains; here = c.self.inside.here.items }) (record {
-      chains = c.self.inside.chains;
-      here = slice_set c.self.inside.here.items c.cpu.inside.0 c.before-before.result;
-    }) c.cpu.inside.0 c.index-was.result.now c.before-before.result (whose ∙ sym c.cpu.view_is) within
-    was_here refl c.before-before.ensures.before refl (subst (AreExchanged g _) (sym c.self.view_is) are)
+    (record { chains = c.self.inside.chains; here = c.self.inside.here.items }) _ _ _ c.before-before.result
+    (whose ∙ sym c.cpu.view_is) within was_here refl c.before-before.ensures.before refl
+    (subst (AreExchanged g _) (sym c.self.view_is) are)

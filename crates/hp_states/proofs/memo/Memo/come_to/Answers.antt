@@ -1,7 +1,7 @@
 -- The places mean what they did.
-use Rattle.std.proofs.Common.{refl}
+use Rattle.std.proofs.Common.{refl, subst, sym}
 use Rattle.std.proofs.lemmas.Result.{IfOk-weaker}
-use Rattle.hp_states.specs.Seen.{MemoValue}
+use Rattle.hp_states.specs.Seen.{IsMemo}
 use Rattle.hp_states.proofs.Keeping.{memo_extended, memo_stands}
 use Rattle.hp_states.proofs.memo.Memo.come_to.Goals as goal
 
@@ -35,25 +35,10 @@ returns-clause-ok c =
 
 pub returns-in_err-number_state-clause-memo : goal.returns-in_err-number_state-clause-memo
 returns-in_err-number_state-clause-memo c =
-    let old : MemoValue = record {
-      is_on = c.self.inside.is_on;
-      keys = c.self.inside.keys;
-      rows = c.self.inside.rows;
-      key = c.self.inside.key;
-      standing = c.self.inside.standing;
-    } in
-    λ g ends kept. memo_extended g ends old (record old { standing = c.number_state.new.self })
-    (refl, refl, refl) c.number_state.ensures.kept (rw c.self.view_is kept)
+    λ g ends kept. memo_extended g ends _ _ (refl, refl, refl) c.number_state.ensures.kept
+    (subst (IsMemo g ends) (sym c.self.view_is) kept)
 
 pub returns-clause-memo : goal.returns-clause-memo
 returns-clause-memo c =
-    let old : MemoValue = record {
-      is_on = c.self.inside.is_on;
-      keys = c.self.inside.keys;
-      rows = c.self.inside.rows;
-      key = c.self.inside.key;
-      standing = c.self.inside.standing;
-    } in
-    λ g ends kept. memo_extended g ends old
-    (record old { key = c.key.new.key; standing = c.number_state.new.self }) (refl, refl, refl)
-    c.number_state.ensures.kept (rw c.self.view_is kept)
+    λ g ends kept. memo_extended g ends _ _ (refl, refl, refl) c.number_state.ensures.kept
+    (subst (IsMemo g ends) (sym c.self.view_is) kept)

@@ -7,6 +7,5 @@ use Rattle.hp_states.proofs.memo.Memo.shares.Goals as goal
 pub returns : goal.returns
 returns c =
     rw (← c.self.view_is)
-    (row_among (λ (row : Bor (List Share)). row.now) c.row.result c.self.inside.keys c.self.inside.rows
-    c.self.inside.key c.bytes.result.now c.in-Some.place c.bytes.ensures
+    (row_among (λ (row : Bor (List Share)). row.now) c.row.result _ _ _ _ _ c.bytes.ensures
     c.in-Some.ensures c.row.ensures.some)

@@ -7,19 +7,16 @@ use Rattle.hp_states.proofs.openings.Openings.after_cancel.Goals as goal
 
 pub returns-in_default-entry : goal.returns-in_default-entry
 returns-in_default-entry c =
-    made_empty (after_cancel c.args.cancelled) c.args.self.now c.args.was c.in-Some.number c.empty.result refl
+    made_empty (after_cancel c.args.cancelled) c.args.self.now c.in-Some.number c.empty.result refl
     c.in-Some.is (rw c.in_default-entry.is at c.entry.ensures.none) c.empty.ensures
 
 pub returns-then-entry-cancelled : goal.returns-then-entry-cancelled
 returns-then-entry-cancelled c =
-    let made = rw c.in-Some-entry.is at c.entry.ensures.some in
-    same_cancel c.args.self.now c.args.was c.in-Some.number c.args.cancelled c.in-Some-entry.entry.now
-    c.in-Some.is made (eq-eqb c.in-Some-entry.entry.now.op c.args.cancelled c.if-entry-cancelled.true)
+    same_cancel c.args.self.now c.args.cancelled c.in-Some-entry.entry.now c.in-Some.is
+    (rw c.in-Some-entry.is at c.entry.ensures.some) (eq-eqb _ _ c.if-entry-cancelled.true)
 
 pub returns-else-entry-cancelled : goal.returns-else-entry-cancelled
 returns-else-entry-cancelled c =
-    let made = rw c.in-Some-entry.is at c.entry.ensures.some in
-    other_cancel c.args.self.now c.args.was c.in-Some.number c.empty-else-entry-cancelled.result
-    c.args.cancelled c.in-Some-entry.entry.now c.in-Some.is made
-    (ne_eqb c.in-Some-entry.entry.now.op c.args.cancelled c.if-entry-cancelled.false)
+    other_cancel c.args.self.now c.args.cancelled c.in-Some-entry.entry.now c.in-Some.is
+    (rw c.in-Some-entry.is at c.entry.ensures.some) _ (ne_eqb _ _ c.if-entry-cancelled.false)
     c.empty-else-entry-cancelled.ensures

@@ -7,19 +7,16 @@ use Rattle.hp_states.proofs.openings.Openings.after_work.Goals as goal
 
 pub returns-in_default-entry : goal.returns-in_default-entry
 returns-in_default-entry c =
-    made_empty (after_work c.args.worked) c.args.self.now c.args.was c.in-Some.number c.empty.result refl
-    c.in-Some.is (rw c.in_default-entry.is at c.entry.ensures.none) c.empty.ensures
+    made_empty (after_work c.args.worked) c.args.self.now c.in-Some.number c.empty.result refl c.in-Some.is
+    (rw c.in_default-entry.is at c.entry.ensures.none) c.empty.ensures
 
 pub returns-then-entry-worked : goal.returns-then-entry-worked
 returns-then-entry-worked c =
-    let made = rw c.in-Some-entry.is at c.entry.ensures.some in
-    same_work c.args.self.now c.args.was c.in-Some.number c.args.worked c.in-Some-entry.entry.now c.in-Some.is
-    made (eq-eqb c.in-Some-entry.entry.now.op c.args.worked c.if-entry-worked.true)
+    same_work c.args.self.now c.args.worked c.in-Some-entry.entry.now c.in-Some.is
+    (rw c.in-Some-entry.is at c.entry.ensures.some) (eq-eqb _ _ c.if-entry-worked.true)
 
 pub returns-else-entry-worked : goal.returns-else-entry-worked
 returns-else-entry-worked c =
-    let made = rw c.in-Some-entry.is at c.entry.ensures.some in
-    other_work c.args.self.now c.args.was c.in-Some.number c.empty-else-entry-worked.result
-    c.args.worked c.in-Some-entry.entry.now c.in-Some.is made
-    (ne_eqb c.in-Some-entry.entry.now.op c.args.worked c.if-entry-worked.false)
+    other_work c.args.self.now c.args.worked c.in-Some-entry.entry.now c.in-Some.is
+    (rw c.in-Some-entry.is at c.entry.ensures.some) _ (ne_eqb _ _ c.if-entry-worked.false)
     c.empty-else-entry-worked.ensures

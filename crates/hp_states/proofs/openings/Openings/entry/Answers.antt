@@ -12,13 +12,11 @@ returns-then-number-eq0-clause-none c =
 
 pub returns-clause-some : goal.returns-clause-some
 returns-clause-some c =
-    entry_read entry_below in_front (λ (e : Bor Entry). e.now) c.self.inside.entries.items
-    c.as_slice-entries.result.now c.args.self.now c.args.number (c.args.number - 1) c.get.result
-    c.self.invariant c.self.view_is c.as_slice-entries.ensures.value
+    entry_read entry_below in_front (λ (e : Bor Entry). e.now) _ _ _ c.args.number (c.args.number - 1)
+    c.get.result c.self.invariant c.self.view_is c.as_slice-entries.ensures.value
     (omega (arith, c.if-number-eq0.false)) c.get.ensures.lookup.0 c.get.ensures.lookup.1
 
 pub returns-clause-none : goal.returns-clause-none
 returns-clause-none c =
-    none_read entry_below in_front c.self.inside.entries.items c.as_slice-entries.result.now c.args.self.now
-    c.args.number (c.args.number - 1) c.get.result c.self.view_is c.as_slice-entries.ensures.value
-    (omega (arith, c.if-number-eq0.false)) c.get.ensures.lookup.0
+    none_read entry_below in_front _ _ _ c.args.number (c.args.number - 1) c.get.result c.self.view_is
+    c.as_slice-entries.ensures.value (omega (arith, c.if-number-eq0.false)) c.get.ensures.lookup.0

@@ -5,12 +5,6 @@ use Rattle.hp_states.specs.Stops.{AreNumbersAt, AreStopsAt, StopsValue}
 use Rattle.hp_states.proofs.Keys.{code_made}
 use Rattle.hp_states.proofs.standing.Standing.key.Goals as goal
 
-pub push_parts-requires-clause-processors : goal.push_parts-requires-clause-processors
-push_parts-requires-clause-processors c = c.requires.processors
-
-pub push_parts-requires-clause-standing : goal.push_parts-requires-clause-standing
-push_parts-requires-clause-standing c = c.requires.standing
-
 pub returns : goal.returns
 returns c =
     let two = c.in_ok-has.ensures c.if-not-has.false in

@@ -1,5 +1,5 @@
 -- Each processor's part is added in its turn.
-use Rattle.std.proofs.Common.{ℕ, ap, arith, get_or, subst, ◌∙◌}
+use Rattle.std.proofs.Common.{ℕ, ap, arith, subst, ◌∙◌}
 use Rattle.hp_states.specs.Standing.{IsBegunCode, StandingValue}
 use Rattle.hp_states.proofs.Keys.{code_more}
 use Rattle.hp_states.proofs.Stood.{number_inside, number_read}
@@ -12,15 +12,10 @@ bounds-numbers-cpu c =
     (c.numbers-numbers.ensures ∙ ap (λ (s : StandingValue). s.exchanged.here) c.self.view_is)
     (omega (arith, c.loop-cpu-test.true, c.requires.processors, stand.2.many)) stand.3
 
-pub loop-cpu-init : goal.loop-cpu-init
-loop-cpu-init c = λ g news at stands count state openings begun. begun
-
 pub loop-cpu-preserved : goal.loop-cpu-preserved
 loop-cpu-preserved c =
     λ g news at stands count state openings begun.
-    code_more c.args.self.now news count state openings c.loop-cpu.cpu
-    (get_or c.numbers-numbers.result.now c.loop-cpu.cpu 0) c.begun.inside.0 c.loop-cpu.key
-    c.number.new.self c.number-in-loop-cpu.new.self
+    code_more c.args.self.now news count state openings c.loop-cpu.cpu _ _ _ _ _
     (c.loop-cpu.invariant g news at stands count state openings begun) c.in_ok-number.ensures
     c.in_ok-number-2.ensures
     (number_read g news c.args.self.now c.numbers-numbers.result.now c.loop-cpu.cpu

@@ -1,5 +1,5 @@
 -- The way has one place more.
-use Rattle.std.proofs.Common.{None, refl, subst, sym}
+use Rattle.std.proofs.Common.{refl, subst, sym}
 use Rattle.hp_states.specs.Stops.{AreStopsAt, StopsValue}
 use Rattle.hp_states.proofs.Numbered.{number_within}
 use Rattle.hp_states.proofs.StopNumbers.{went_on}
@@ -7,17 +7,11 @@ use Rattle.hp_states.proofs.stops.Stops.go_on.Goals as goal
 
 pub openings_after-requires : goal.openings_after-requires
 openings_after-requires c =
-    let old : StopsValue = record {
-      codes = c.self.inside.codes;
-      lists = c.self.inside.openings;
-      here = c.self.inside.here;
-      before = c.self.inside.before.items;
-    } in
     let at = c.requires.0 in
     let g = c.requires.1 in
     let news = c.requires.2 in
-    let was : AreStopsAt at g news old = subst (AreStopsAt at g news) (sym c.self.view_is) c.requires.3 in
-    number_within (at news) g old.codes old.lists news old.here.openings was.0
+    let was = subst (AreStopsAt at g news) (sym c.self.view_is) c.requires.3 in
+    number_within (at news) g _ _ news _ was.0
 
 pub returns-clause-ok : goal.returns-clause-ok
 returns-clause-ok c =
@@ -29,10 +23,6 @@ returns-clause-ok c =
       before = c.self.inside.before.items;
     } in
     let was : AreStopsAt at g news old = subst (AreStopsAt at g news) (sym c.self.view_is) are in
-    went_on at g news c.args.call.now old (record {
-      codes = c.self.inside.codes;
-      lists = c.openings_after.new.openings;
-      here = record { openings = c.in_ok-openings.openings; state = None };
-      before = c.push.new.self.items;
-    }) c.in_ok-openings.openings refl c.openings_after.ensures.kept refl c.in_ok-push.ensures.items
+    went_on at g news c.args.call.now old _ _ refl c.openings_after.ensures.kept refl
+    c.in_ok-push.ensures.items
     (c.in_ok-openings.ensures.ok at g old.codes news numbering numbers leaves was.1 was.0) was

@@ -5,19 +5,13 @@ use Rattle.hp_states.proofs.texts.Texts.append.Goals as goal
 
 pub invariant_of-self-2 : goal.invariant_of-self-2
 invariant_of-self-2 c =
-    texts_on c.self.inside.bytes.items c.args.text.now c.extend_from_slice.new.self.items
-    c.self.inside.ends.items c.push_reserved.new.self.items c.len.result c.self.invariant
-    c.in_ok-extend_from_slice.ensures.items
-    (rw c.reserve.ensures.items at c.push_reserved.ensures.items)
-    (omega (arith, c.len.ensures))
+    texts_on _ c.args.text.now _ _ _ _ c.self.invariant c.in_ok-extend_from_slice.ensures.items
+    (rw c.reserve.ensures.items at c.push_reserved.ensures.items) (omega (arith, c.len.ensures))
 
 pub returns-clause-ok : goal.returns-clause-ok
 returns-clause-ok c =
-    texts_are c.self.inside.bytes.items c.args.text.now c.extend_from_slice.new.self.items
-    c.self.inside.ends.items c.push_reserved.new.self.items c.len.result c.self.invariant
-    c.in_ok-extend_from_slice.ensures.items
-    (rw c.reserve.ensures.items at c.push_reserved.ensures.items)
-    (omega (arith, c.len.ensures))
+    texts_are _ c.args.text.now _ _ _ _ c.self.invariant c.in_ok-extend_from_slice.ensures.items
+    (rw c.reserve.ensures.items at c.push_reserved.ensures.items) (omega (arith, c.len.ensures))
     ∙ ap (λ (texts : List (List ℕ)). texts ++ c.args.text.now ∷ []) c.self.view_is
 
 pub returns-clause-number : goal.returns-clause-number
@@ -25,7 +19,7 @@ returns-clause-number c =
     omega (
       arith,
       c.len-number.ensures,
-      ap (λ (ends : List ℕ). length ends) c.reserve.ensures.items,
+      ap length c.reserve.ensures.items,
       count c.self.inside.bytes.items 0 c.self.inside.ends.items,
-      ap (λ (texts : List (List ℕ)). length texts) c.self.view_is,
+      ap length c.self.view_is,
     )

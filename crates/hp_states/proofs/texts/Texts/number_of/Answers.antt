@@ -4,10 +4,8 @@ use Rattle.hp_states.proofs.texts.Texts.number_of.Goals as goal
 
 pub returns-in-None-clause-kept : goal.returns-in-None-clause-kept
 returns-in-None-clause-kept c =
-    keep_added c.append.result c.args.self.now c.append.new.self c.args.text.now
-    c.append.ensures.ok c.append.ensures.err
+    keep_added c.append.result _ _ c.args.text.now c.append.ensures.ok c.append.ensures.err
 
 pub returns-in-None-clause-ok : goal.returns-in-None-clause-ok
 returns-in-None-clause-ok c =
-    number_added c.append.result c.args.self.now c.append.new.self c.args.text.now
-    c.append.ensures.ok c.append.ensures.number
+    number_added c.append.result _ _ c.args.text.now c.append.ensures.ok c.append.ensures.number

@@ -20,66 +20,40 @@ returns-in_default-from_slice-clause-err c = sym c.first_fault.ensures ∙ c.in_
 
 pub overflow_cast-result : goal.overflow_cast-result
 overflow_cast-result c =
-    omega (
-      arith,
-      (short_within (parts_seen c.args.parts.now) (sym c.first_fault.ensures ∙ c.in_default.is)).order,
-    )
+    omega (arith, (short_within (parts_seen c.args.parts.now) c.first_fault.ensures c.in_default.is).order)
 
 pub overflow_cast-result-2 : goal.overflow_cast-result-2
 overflow_cast-result-2 c =
-    omega (
-      arith,
-      (short_within (parts_seen c.args.parts.now) (sym c.first_fault.ensures ∙ c.in_default.is)).pageblocks,
-    )
+    let short = short_within (parts_seen c.args.parts.now) c.first_fault.ensures c.in_default.is in
+    omega (arith, short.pageblocks)
 
 pub overflow_cast-result-3 : goal.overflow_cast-result-3
 overflow_cast-result-3 c =
-    omega (
-      arith,
-      (short_within (parts_seen c.args.parts.now) (sym c.first_fault.ensures ∙ c.in_default.is)).blocks,
-    )
+    omega (arith, (short_within (parts_seen c.args.parts.now) c.first_fault.ensures c.in_default.is).blocks)
 
 pub overflow_cast-result-4 : goal.overflow_cast-result-4
 overflow_cast-result-4 c =
-    omega (
-      arith,
-      (short_within (parts_seen c.args.parts.now) (sym c.first_fault.ensures ∙ c.in_default.is)).cpus,
-    )
+    omega (arith, (short_within (parts_seen c.args.parts.now) c.first_fault.ensures c.in_default.is).cpus)
 
 pub overflow_cast-result-5 : goal.overflow_cast-result-5
 overflow_cast-result-5 c =
-    omega (
-      arith,
-      (short_within (parts_seen c.args.parts.now) (sym c.first_fault.ensures ∙ c.in_default.is)).batch,
-    )
+    omega (arith, (short_within (parts_seen c.args.parts.now) c.first_fault.ensures c.in_default.is).batch)
 
 pub overflow_cast-result-6 : goal.overflow_cast-result-6
 overflow_cast-result-6 c =
-    omega (
-      arith,
-      (short_within (parts_seen c.args.parts.now) (sym c.first_fault.ensures ∙ c.in_default.is)).high,
-    )
+    omega (arith, (short_within (parts_seen c.args.parts.now) c.first_fault.ensures c.in_default.is).high)
 
 pub overflow_cast-result-7 : goal.overflow_cast-result-7
 overflow_cast-result-7 c =
-    omega (
-      arith,
-      (short_within (parts_seen c.args.parts.now) (sym c.first_fault.ensures ∙ c.in_default.is)).owners,
-    )
+    omega (arith, (short_within (parts_seen c.args.parts.now) c.first_fault.ensures c.in_default.is).owners)
 
 pub overflow_cast-result-8 : goal.overflow_cast-result-8
 overflow_cast-result-8 c =
-    omega (
-      arith,
-      (short_within (parts_seen c.args.parts.now) (sym c.first_fault.ensures ∙ c.in_default.is)).pages,
-    )
+    omega (arith, (short_within (parts_seen c.args.parts.now) c.first_fault.ensures c.in_default.is).pages)
 
 pub overflow_cast-result-9 : goal.overflow_cast-result-9
 overflow_cast-result-9 c =
-    omega (
-      arith,
-      (short_within (parts_seen c.args.parts.now) (sym c.first_fault.ensures ∙ c.in_default.is)).words,
-    )
+    omega (arith, (short_within (parts_seen c.args.parts.now) c.first_fault.ensures c.in_default.is).words)
 
 pub returns-clause-ok : goal.returns-clause-ok
 returns-clause-ok c =

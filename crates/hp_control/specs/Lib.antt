@@ -1,4 +1,0 @@
-pub mod Laws
-pub mod Names
-pub mod Reads
-pub mod Zones

@@ -1,8 +1,0 @@
-//! A law of reading and writing, in plain terms.
-ghost use Rattle.hp_control.specs.Laws.{AutoIsWrittenBack};
-
-/// Writing the text of `auto_online_blocks` back to the file asks for the policy that it already
-/// shows.
-pub fn auto_is_written_back()
-    ensures { AutoIsWrittenBack }
-{}

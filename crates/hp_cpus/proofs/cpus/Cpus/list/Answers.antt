@@ -1,4 +1,0 @@
-use Rattle.hp_cpus.proofs.cpus.Cpus.list.Goals as goal
-
-pub returns : goal.returns
-returns c = rw (← c.self.view_is, ← c.list_number.ensures) c.list.ensures

@@ -1,5 +1,0 @@
-mod FilledLists
-pub mod Images
-mod Lists
-mod Pages
-pub mod Tables

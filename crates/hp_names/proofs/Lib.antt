@@ -1,5 +1,0 @@
-pub mod BoundNumbers
-pub mod FrontRuns
-pub mod NamedLists
-pub mod NamedReads
-pub mod PlainTexts

@@ -1,2 +1,0 @@
-mod NumbersParsed
-pub mod NumbersSpelled

@@ -1,5 +1,0 @@
-use Rattle.hp_numbers.proofs.NumbersSpelled.{numbers_law}
-use Rattle.hp_numbers.proofs.number_words.numbers_are_spelled.Goals as goal
-
-pub returns : goal.returns
-returns c = numbers_law

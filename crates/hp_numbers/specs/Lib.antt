@@ -1,2 +1,0 @@
-pub mod NumberWords
-pub mod Numbers

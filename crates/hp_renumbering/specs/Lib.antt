@@ -1,2 +1,0 @@
-pub mod Numberings
-pub mod Renumbered

@@ -1,3 +1,0 @@
-mod ChainEnds
-pub mod Replays
-mod SameLayouts

@@ -1,0 +1,13 @@
+pub mod BoundNumbers
+pub mod FrontRuns
+pub mod NamedLists
+pub mod NamedReads
+pub mod PlainTexts
+pub mod Calls
+pub mod LineResults
+pub mod LineSteps
+pub mod Lists
+pub mod Scripted
+pub mod Started
+pub mod StepCounts
+pub mod StepResults

@@ -1,0 +1,17 @@
+pub mod Bindings
+pub mod Named
+pub mod NamedWords
+pub mod Plain
+pub mod Resolved
+pub mod Results
+pub mod Runs
+pub mod Seen
+pub mod Begins
+pub mod Checks
+pub mod Counting
+pub mod NamedResults
+pub mod ScriptResults
+pub mod Scripts
+pub mod Setup
+pub mod Starts
+pub mod Unbegun

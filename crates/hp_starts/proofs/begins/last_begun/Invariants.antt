@@ -1,6 +1,0 @@
-use Rattle.std.proofs.Common.{◌≡◌, take}
-use Rattle.hp_starts.specs.Begins.{last_begun}
-use Rattle.hp_starts.proofs.begins.last_begun.Given as goal
-
-abbrev pub invariant-loop-begin : goal.invariant-loop-begin
-invariant-loop-begin l = l.op ≡ last_begun l.cpu (take l.begin-index l.begins)

@@ -1,6 +1,0 @@
-use Rattle.std.proofs.Common.{◌≡◌, ◌++◌, take}
-use Rattle.hp_starts.specs.Begins.{begins_in}
-use Rattle.hp_starts.proofs.begins.note_begins.Given as goal
-
-abbrev pub invariant-loop-record : goal.invariant-loop-record
-invariant-loop-record l = l.begins.items ≡ l.fn.begins.items ++ begins_in (take l.record-index l.records)

@@ -1,9 +1,0 @@
-pub mod Begins
-pub mod Checks
-pub mod Counting
-pub mod NamedResults
-pub mod Results
-pub mod Scripts
-pub mod Setup
-pub mod Starts
-pub mod Unbegun

@@ -1,3 +1,0 @@
-mod Moves
-mod Shown
-mod Walks

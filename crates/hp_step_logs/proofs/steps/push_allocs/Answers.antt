@@ -1,8 +1,0 @@
-use Rattle.hp_lawful.specs.Logs.{allocs_at}
-use Rattle.hp_step_logs.proofs.Walks.{items_more}
-use Rattle.hp_step_logs.proofs.steps.push_allocs.Goals as goal
-
-pub loop-number-preserved : goal.loop-number-preserved
-loop-number-preserved c = λ s t p q.
-    items_more (allocs_at c.args.layout.now s t) c.loop-number.number _ _ _ (c.loop-number.invariant s t p q)
-    (c.in_ok-push_allocated.ensures s t p q)

@@ -1,8 +1,0 @@
-use Rattle.hp_lawful.specs.Logs.{frees_at}
-use Rattle.hp_step_logs.proofs.Walks.{items_more}
-use Rattle.hp_step_logs.proofs.steps.push_frees.Goals as goal
-
-pub loop-number-preserved : goal.loop-number-preserved
-loop-number-preserved c = λ s t p q.
-    items_more (frees_at c.args.layout.now s t) c.loop-number.number _ _ _ (c.loop-number.invariant s t p q)
-    (c.in_ok-push_freed.ensures s t p q)

@@ -1,4 +1,0 @@
-pub mod Names
-pub mod Snapshots
-pub mod Steps
-pub mod Turns

@@ -1,3 +1,0 @@
-pub mod Ended
-pub mod Heard
-pub mod Joined

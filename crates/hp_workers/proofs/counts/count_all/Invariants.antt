@@ -1,6 +1,0 @@
-use Rattle.std.proofs.Common.{◌≡◌, take}
-use Rattle.hp_workers.specs.Seals.{seals_in_all}
-use Rattle.hp_workers.proofs.counts.count_all.Given as goal
-
-abbrev pub invariant-loop-script : goal.invariant-loop-script
-invariant-loop-script l = l.count ≡ seals_in_all (take l.script-index l.scripts.items)

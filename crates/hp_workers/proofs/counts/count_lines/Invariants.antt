@@ -1,6 +1,0 @@
-use Rattle.std.proofs.Common.{◌≡◌, ◌+◌, take}
-use Rattle.hp_workers.specs.Seals.{seals_in}
-use Rattle.hp_workers.proofs.counts.count_lines.Given as goal
-
-abbrev pub invariant-loop-line : goal.invariant-loop-line
-invariant-loop-line l = l.count ≡ l.fn.before + seals_in (take l.line-index l.lines)

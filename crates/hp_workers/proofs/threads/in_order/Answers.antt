@@ -1,8 +1,0 @@
-use Rattle.std.proofs.Common.{rules}
-use Rattle.std.proofs.lemmas.List.Sorted.{IsNonDecreasingBy-from_sort_by_key}
-use Rattle.hp_workers.specs.Seals.{rank}
-use Rattle.hp_workers.proofs.threads.in_order.Goals as goal
-
-pub returns-clause-order : goal.returns-clause-order
-returns-clause-order g c =
-    IsNonDecreasingBy-from_sort_by_key rank _ c.sort_unstable_by_key.ensures.sorted (λ a r q k. search rules)
