@@ -126,7 +126,8 @@ fn found<W: Watch>(
 }
 
 /// Searches in `jobs` threads for an interleaving whose end meets each of the wanted lines, to show
-/// that there is none. The status is 0 if there is none, and 3 if there is one or that is not known.
+/// that there is none. The status is 0 if there is none, and 3 if there is one or that is not
+/// known.
 fn never<W: Watch>(
     rt: &(impl Threads + Wait + Sync),
     alloc: Global,

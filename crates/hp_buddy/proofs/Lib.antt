@@ -9,7 +9,7 @@ pub mod Moves
 pub mod Notes
 pub mod Pageblocks
 pub mod Placed
-pub mod Scripts
+pub mod Rooms
 pub mod Searches
 pub mod Splits
 pub mod Standing

@@ -16,7 +16,7 @@ use Rattle.hp_buddy.specs.Cpus.{CpusValue, AreTogether, frames_of, list_of, with
 use Rattle.hp_buddy.proofs.CpuCounts.{times-push}
 use Rattle.hp_buddy.proofs.Together.{IsOut, IsIn, list-in}
 use Rattle.hp_buddy.proofs.Besides.{notes-beside, notes-then, room_left}
-use Rattle.hp_buddy.proofs.Scripts.{room_for_one, one_done}
+use Rattle.hp_buddy.proofs.Rooms.{room_for_one, one_done}
 use Rattle.hp_buddy.proofs.Spills.{given}
 
 -- what a turn keeps, and what it notes

@@ -20,7 +20,7 @@ mod searches;
 mod splits;
 
 use crate::Links;
-use crate::classes::list_number;
+use crate::classes::area_list;
 use hp_tape::{Delta, ListId, Tape};
 use hp_units::{Class, Frame, Kind, Layout, Mobility, Order, Pageblock, Zone};
 use std::alloc::{AllocError, Global};
@@ -117,7 +117,7 @@ impl Buddy {
         requires { order ≤ self.now.layout.order }
         ensures { result ≡ length (free_list self.now.areas class order) }
     {
-        self.links.len(list_number(class, order))
+        self.links.len(area_list(class, order))
     }
 
     /// Returns the free blocks of a class and an order, front first.
@@ -125,7 +125,7 @@ impl Buddy {
         requires { order ≤ self.now.layout.order }
         ensures { IfOk result (λ frames. frames.items ≡ free_list self.now.areas class order) }
     {
-        self.links.list(alloc, list_number(class, order))
+        self.links.list(alloc, area_list(class, order))
     }
 
     /// Returns the first free block of a class and an order.
@@ -133,7 +133,7 @@ impl Buddy {
         requires { order ≤ self.now.layout.order }
         ensures { result ≡ slice_get (free_list self.now.areas class order) 0 }
     {
-        self.links.front(list_number(class, order))
+        self.links.front(area_list(class, order))
     }
 
     /// Returns the free block after the one that starts at this frame, on its list.
@@ -335,7 +335,7 @@ impl Buddy {
             }
             Delta::Unlink { list, frame, after } => {
                 if let ListId::Area { class, order } = list {
-                    let number = list_number(class, Order(u32::from(order)));
+                    let number = area_list(class, Order(u32::from(order)));
                     self.links.relink_after(number, frame, after);
                 }
             }

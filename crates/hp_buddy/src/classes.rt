@@ -1,4 +1,4 @@
-//! Numbers of lists, and parts of blocks.
+//! Numbers of the free areas' lists, and parts of blocks.
 ghost use Rattle.std.specs.Prelude.{◌≡◌, ◌+◌, ◌*◌, ◌^◌, ◌<◌};
 ghost use Rattle.hp_units.specs.Memory.{class_index};
 
@@ -6,7 +6,7 @@ use crate::ListNumber;
 use hp_units::{Class, Frame, Order};
 
 /// Returns the number of the list of a class and an order.
-pub fn list_number(class: Class, order: Order) -> ListNumber
+pub fn area_list(class: Class, order: Order) -> ListNumber
     requires { order < 32 }
     ensures { result ≡ 5 * order + class_index class }
 {

@@ -13,7 +13,7 @@ ghost use Rattle.hp_buddy.specs.Cpus.{AreTogether, MayBePut, frames_of, list_of,
 mod batches;
 mod edits;
 
-use crate::pools::list_number;
+use crate::pools::cpu_list;
 use crate::{Buddy, Links};
 use hp_tape::{Delta, ListId, Tape};
 use hp_units::{Cpu, Frame, Layout, Pool, Zone, pageblock_of};
@@ -74,7 +74,7 @@ impl Cpus {
         requires { cpu < self.now.layout.cpus }
         ensures { result ≡ length (list_of self.now cpu pool) }
     {
-        self.links.len(list_number(cpu, pool))
+        self.links.len(cpu_list(cpu, pool))
     }
 
     /// Returns the frames on a processor's list of a pool, front first.
@@ -82,7 +82,7 @@ impl Cpus {
         requires { cpu < self.now.layout.cpus }
         ensures { IfOk result (λ frames. frames.items ≡ list_of self.now cpu pool) }
     {
-        self.links.list(alloc, list_number(cpu, pool))
+        self.links.list(alloc, cpu_list(cpu, pool))
     }
 
     /// Returns the first frame on a processor's list of a pool.
@@ -90,7 +90,7 @@ impl Cpus {
         requires { cpu < self.now.layout.cpus }
         ensures { result ≡ slice_get (list_of self.now cpu pool) 0 }
     {
-        self.links.front(list_number(cpu, pool))
+        self.links.front(cpu_list(cpu, pool))
     }
 
     /// Returns the frame after this one, on the processor's list that it is on.
@@ -233,7 +233,7 @@ impl Cpus {
             }
             Delta::Unlink { list, frame, after } => {
                 if let ListId::Cpu { pool, cpu } = list {
-                    let number = list_number(Cpu(u32::from(cpu)), pool);
+                    let number = cpu_list(Cpu(u32::from(cpu)), pool);
                     self.links.relink_after(number, frame, after);
                 }
             }

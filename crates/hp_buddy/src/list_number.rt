@@ -1,4 +1,4 @@
-//! Numbers of lists.
+//! The number of a list of frames.
 use std::marker::Model;
 
 /// The number of a list in a table, from 0 on.

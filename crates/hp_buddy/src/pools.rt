@@ -6,7 +6,7 @@ use crate::ListNumber;
 use hp_units::{Cpu, Pool};
 
 /// Returns the number of a processor's list of a pool.
-pub fn list_number(cpu: Cpu, pool: Pool) -> ListNumber
+pub fn cpu_list(cpu: Cpu, pool: Pool) -> ListNumber
     requires { cpu < 64 }
     ensures { result ≡ 3 * cpu + pool_index pool }
 {

@@ -143,8 +143,8 @@ fn cause(text: &str, word: &str, fault: NameFault) -> &'static str {
     }
 }
 
-/// Returns the first word after the processor's that begins with a dollar sign, or the empty text if
-/// there is none.
+/// Returns the first word after the processor's that begins with a dollar sign, or the empty text
+/// if there is none.
 fn reference_in(text: &str) -> &str {
     let mut words = text.split(' ');
     let _processor = words.next();

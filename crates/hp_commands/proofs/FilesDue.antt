@@ -3,7 +3,7 @@ use Rattle.std.proofs.Common.{◌≡◌, ℕ, List, ◌++◌, codes, refl, inl, 
 use Rattle.hp_machine.specs.Machine.{MachineValue}
 use Rattle.hp_requests.specs.declared.fault.ControlFault.TheVariants.{OutOfMemory}
 use Rattle.hp_commands.specs.Files.{WritesFile, cat_text}
-use Rattle.hp_text.specs.Files.{read_fault_line}
+use Rattle.hp_text.specs.FileFaults.{read_fault_line}
 use Rattle.hp_commands.specs.Serial.{IsWhole}
 use Rattle.hp_commands.proofs.Whole.{not_whole}
 

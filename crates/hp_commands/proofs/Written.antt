@@ -10,9 +10,9 @@ use Rattle.hp_machine.specs.MachinePorts.{HasCause, IsPlanRun}
 use Rattle.hp_requests.specs.declared.fault.ControlFault.{ControlFault}
 use Rattle.hp_requests.specs.declared.fault.ControlFault.TheVariants.{OutOfMemory}
 use Rattle.hp_requests.specs.Gives.{Fails}
-use Rattle.hp_text.specs.Reads.{file_text}
+use Rattle.hp_text.specs.ControlFiles.{file_text}
 use Rattle.hp_commands.specs.Files.{WritesFile, read_answer}
-use Rattle.hp_text.specs.Files.{read_fault_line}
+use Rattle.hp_text.specs.FileFaults.{read_fault_line}
 use Rattle.hp_commands.specs.Serial.{GrowsBy}
 
 -- ---- a plan

@@ -3,8 +3,8 @@ use Rattle.std.specs.Prelude.{◌≡◌, ◌⊎◌, ℕ, List, Result, Ok, Err}
 use Rattle.hp_machine.specs.Machine.{MachineValue}
 use Rattle.hp_requests.specs.declared.fault.ControlFault.{ControlFault}
 use Rattle.hp_requests.specs.declared.fault.ControlFault.TheVariants.{OutOfMemory}
-use Rattle.hp_text.specs.Reads.{file_text}
-use Rattle.hp_text.specs.Files.{read_fault_line}
+use Rattle.hp_text.specs.ControlFiles.{file_text}
+use Rattle.hp_text.specs.FileFaults.{read_fault_line}
 
 -- the text of a file, or the line with the reason that there is none
 abbrev pub read_answer : Result (List ℕ) ControlFault → List ℕ

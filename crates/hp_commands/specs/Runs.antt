@@ -15,7 +15,7 @@ use Rattle.hp_scenario.specs.Scripts.{scripts_of}
 use Rattle.hp_shared.specs.Closing.{IsClosed}
 use Rattle.hp_shared.specs.Shared.{SeatValue, first_seats}
 use Rattle.hp_text.specs.Answers.{bare_reply_line, fault_line, sealed_line}
-use Rattle.hp_text.specs.Files.{write_fault_line}
+use Rattle.hp_text.specs.FileFaults.{write_fault_line}
 use Rattle.hp_text.specs.Plans.{plan_line}
 use Rattle.hp_text.specs.State.{newline, texts_below}
 use Rattle.hp_shared.specs.declared.lines.LineEnd.{LineEnd}

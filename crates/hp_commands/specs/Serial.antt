@@ -12,7 +12,7 @@ use Rattle.hp_commands.specs.Events.{WritesEvent, event_text, machine_after_even
 use Rattle.hp_commands.specs.Files.{WritesFile, cat_text}
 use Rattle.hp_commands.specs.Plans.{WritesPlan, plan_run, plan_text}
 use Rattle.hp_commands.specs.Seals.{WritesSeal, seal_text}
-use Rattle.hp_text.specs.Files.{write_fault_line}
+use Rattle.hp_text.specs.FileFaults.{write_fault_line}
 use Rattle.hp_text.specs.State.{state_text}
 
 -- ---- one line

@@ -7,7 +7,7 @@ use Rattle.hp_units.specs.Receipts.{receipts_of}
 use Rattle.hp_units.specs.declared.events.Event.{Event}
 use Rattle.hp_units.specs.declared.replies.Receipt.{Receipt}
 use Rattle.hp_units.specs.declared.replies.Record.{Record}
-use Rattle.hp_laws.proofs.NumberedOptions.{cases_option}
+use Rattle.hp_laws.proofs.Options.{cases_option}
 use Rattle.hp_schedules.specs.LineAnswers.{answers_at, answers_in}
 use Rattle.hp_schedules.specs.Schedules.{Setting, next_call}
 use Rattle.hp_schedules.specs.Scripts.{Known, after_line, known_of, line_next, next_in, nothing_known}

@@ -11,8 +11,8 @@ use Rattle.hp_explore.specs.Reaching.{HasRoomAlong}
 use Rattle.hp_explore.specs.Searches.{AreTriedTo, HasTurned, IsLeaving, IsOn, IsTrying, number_at, numbers_from, room_of, turns_at, turns_left}
 use Rattle.hp_explore.specs.Visited.{AreFollowed, AreVisited}
 use Rattle.hp_explore.specs.declared.searching.Search.{Search}
-use Rattle.hp_explore.specs.declared.searching.Turn.{Turn}
-use Rattle.hp_explore.specs.declared.searching.Turn.TheVariants.{On, New, Found, Over}
+use Rattle.hp_explore.specs.declared.searching.SearchTurn.{SearchTurn}
+use Rattle.hp_explore.specs.declared.searching.SearchTurn.TheVariants.{On, New, Found, Over}
 use Rattle.hp_explore.specs.declared.visited.Visited.{Visited}
 use Rattle.hp_explore.proofs.CallsDone.{call_made, place_done, tried_next, tried_up}
 use Rattle.hp_explore.proofs.Continued.{call_within}
@@ -125,7 +125,7 @@ all_done aim seed p q v at back =
 
 -- with a wider bound
 pub turned_within : (aim : AimValue) (seed : ℕ) (keeps : PathValue → Type 0) (g : Setting) (few most : ℕ)
-    (w : Search) (turn : Turn)
+    (w : Search) (turn : SearchTurn)
     → few ≤ most → HasTurned aim seed keeps g few w turn → HasTurned aim seed keeps g most w turn
 turned_within aim seed keeps g few most w turn less = by_turn turn
   where
@@ -138,7 +138,7 @@ turned_within aim seed keeps g few most w turn less = by_turn turn
       fewer = omega (arith, is.fewer, less);
     }
 
-    by_turn : (t : Turn) → HasTurned aim seed keeps g few w t → HasTurned aim seed keeps g most w t
+    by_turn : (t : SearchTurn) → HasTurned aim seed keeps g few w t → HasTurned aim seed keeps g most w t
     by_turn On is = on is
     by_turn New is = on is
     by_turn Found is = is

@@ -11,8 +11,8 @@ use Rattle.hp_explore.specs.Paths.{PathValue}
 use Rattle.hp_explore.specs.Reaching.{HasRoomAlong}
 use Rattle.hp_explore.specs.Visited.{AreFollowed, AreVisited}
 use Rattle.hp_explore.specs.declared.searching.Search.{Search}
-use Rattle.hp_explore.specs.declared.searching.Turn.{Turn}
-use Rattle.hp_explore.specs.declared.searching.Turn.TheVariants.{On, New, Found, Over}
+use Rattle.hp_explore.specs.declared.searching.SearchTurn.{SearchTurn}
+use Rattle.hp_explore.specs.declared.searching.SearchTurn.TheVariants.{On, New, Found, Over}
 use Rattle.hp_explore.specs.declared.visited.Visited.{Visited}
 
 -- ---- the order of the processors
@@ -153,7 +153,7 @@ pub record IsOn (aim : AimValue) (seed : ℕ) (keeps : PathValue → Type 0) (g 
 -- the result of one step: either the search went on, or it found a schedule that the aim lets it return,
 -- or no schedule is left. With the seed 0, it is the first schedule that is sought
 abbrev pub HasTurned : AimValue → (seed : ℕ) → (keeps : PathValue → Type 0) → Setting → (most : ℕ) → Search
-    → Turn → Type 0
+    → SearchTurn → Type 0
 HasTurned aim seed keeps g most w On = IsOn aim seed keeps g most w
 HasTurned aim seed keeps g most w New = IsOn aim seed keeps g most w
 HasTurned aim seed keeps g most w Found = seed ≡ 0 → IsFirstSought g aim (Some w.schedule)

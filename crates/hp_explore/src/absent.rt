@@ -10,7 +10,7 @@ use crate::ExploreFault;
 use crate::done_places::{DonePlaces, Question};
 use crate::path_keys::PathKeys;
 use crate::places::SharedPlaces;
-use crate::searching::{Search, Turn};
+use crate::searching::{Search, SearchTurn};
 use crate::walk::keeps_places;
 use crate::within::Within;
 use hp_machine::Machine;
@@ -72,7 +72,7 @@ fn is_over_in_one<Q: Question + Send, R: Threads + Wait + Sync>(
             × (Q.setting ≡ setting machine.now scripts.now) × (Q.wanted ≡ wanted.now) }
         ensures { result ≡ true → IsDone Q.setting (aim_within Q.setting Q.wanted None) [] }
     {
-        is_over(
+        searches_to_end(
             rt,
             alloc,
             machine,
@@ -91,7 +91,7 @@ fn is_over_in_one<Q: Question + Send, R: Threads + Wait + Sync>(
 
 /// Searches in one thread, tells the others to stop, and returns whether the search came to its
 /// end.
-fn is_over<Q: Question, R: Wait>(
+fn searches_to_end<Q: Question, R: Wait>(
     rt: &R,
     alloc: Global,
     machine: &Machine,
@@ -144,14 +144,14 @@ fn are_all_done<Q: Question, R: Wait>(
     let mut search = Search::start(alloc, machine, scripts, processors)?;
     'turns: loop {
         match search.turn(alloc, processors, seed, &mut aim, &mut places)? {
-            Turn::On => {}
-            Turn::New => {
+            SearchTurn::On => {}
+            SearchTurn::New => {
                 if done.is_stopped() || search.bytes() > memory {
                     return Ok(false);
                 }
             }
-            Turn::Found => return Ok(false),
-            Turn::Over => return Ok(true),
+            SearchTurn::Found => return Ok(false),
+            SearchTurn::Over => return Ok(true),
         }
     }
 }

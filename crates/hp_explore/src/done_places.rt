@@ -80,8 +80,8 @@ impl<Q: Question> Part<Q> {
         places.has(place)
     }
 
-    /// Adds a place that is done. Returns false, and adds nothing, if the part takes `most` bytes or
-    /// more.
+    /// Adds a place that is done. Returns false, and adds nothing, if the part takes `most` bytes
+    /// or more.
     fn add(&mut self, place: &PlaceCode, most: u64) -> Result<bool, AllocError>
         requires { IsDoneKey Q.setting (aim_within Q.setting Q.wanted None) place.now }
     {

@@ -5,16 +5,16 @@
 //! and stores their counts. This crate owns:
 //! - the walk over all schedules (`exploring`),
 //! - the search for the first schedule that an aim seeks (`searching`, `aim`). It skips a place
-//!   that is equivalent to a visited one (`visited`, `places`). For this it renumbers operations, so
-//!   that it does not matter when they began (`latest_ops`),
-//! - the same search by several threads, for whether a schedule ends as wanted (`absent`). Each tries
-//!   the processors in an order of its own (`rotation`), and they share the places with which they
-//!   are done (`done_places`). Each keeps the keys of the places on its path (`path_keys`),
+//!   that is equivalent to a visited one (`visited`, `places`). For this it renumbers operations,
+//!   so that it does not matter when they began (`latest_ops`),
+//! - the same search by several threads, for whether a schedule ends as wanted (`absent`). Each
+//!   tries the processors in an order of its own (`rotation`), and they share the places with which
+//!   they are done (`done_places`). Each keeps the keys of the places on its path (`path_keys`),
 //! - the merging of parts (`summing`, `jobs`).
 //!
 //! `finding` searches by rising number of changes of processor, as in CHESS (Musuvathi and Qadeer,
-//! PLDI 2007). Each pass is a search within a budget of changes (`within`), which keeps the number of
-//! changes so far (`schedule`).
+//! PLDI 2007). Each pass is a search within a budget of changes (`within`), which keeps the number
+//! of changes so far (`schedule`).
 //!
 //! The crate makes its calls on a memory of its own and takes each back, so that the caller's
 //! machine never changes. It knows nothing of scenarios or texts.

@@ -60,8 +60,8 @@ impl PathKey {
         self.is_kept = false;
     }
 
-    /// Tells the other threads that the place with this key is done, if a key is kept. Returns false
-    /// if they have no memory left for that.
+    /// Tells the other threads that the place with this key is done, if a key is kept. Returns
+    /// false if they have no memory left for that.
     fn tell_done<Q: Question, R: Wait>(
         &self,
         rt: &R,
@@ -77,8 +77,8 @@ impl PathKey {
     }
 }
 
-/// The keys of the places on a walk's path, each by how many calls lead to its place. A place has no
-/// key here if it has none that means the same in each thread.
+/// The keys of the places on a walk's path, each by how many calls lead to its place. A place has
+/// no key here if it has none that means the same in each thread.
 ///
 /// The table keeps its memory as the path gets shorter, so that few keys need new memory.
 pub(crate) struct PathKeys {

@@ -21,7 +21,7 @@ use std::alloc::{AllocError, Global};
 
 /// The result of one step of a search.
 #[derive(Clone, Copy, Drop)]
-pub(crate) enum Turn {
+pub(crate) enum SearchTurn {
     /// The search continues.
     On,
     /// The search has come to a place from which it goes on.
@@ -77,15 +77,15 @@ pub fn first_sought<A: Aim, W: Watch>(
     let mut search = Search::start(alloc, machine, scripts, processors)?;
     'turns: loop {
         match search.turn(alloc, processors, 0, aim, &mut own)? {
-            Turn::On => {}
-            Turn::New => {
+            SearchTurn::On => {}
+            SearchTurn::New => {
                 *places = places.saturating_add(1);
                 if !watch.goes_on(*places, search.bytes()) {
                     return Err(FindFault::Stopped);
                 }
             }
-            Turn::Found => return Ok(Some(search.into_schedule())),
-            Turn::Over => return Ok(None),
+            SearchTurn::Found => return Ok(Some(search.into_schedule())),
+            SearchTurn::Over => return Ok(None),
         }
     }
 }
@@ -121,7 +121,7 @@ impl<'a> Search<'a> {
         seed: u64,
         aim: &mut A,
         places: &mut T,
-    ) -> Result<Turn, ExploreFault>
+    ) -> Result<SearchTurn, ExploreFault>
         requires processors { processors ≡ length self.old.path.setting.scripts }
         requires schedule { self.old.schedule ≡ schedule_of self.old.path.news }
         requires trying { IsTrying (A.shows aim.old self.old.path.setting) seed self.old.path
@@ -139,7 +139,7 @@ impl<'a> Search<'a> {
         }
         self.path.is_played();
         if aim.is_met(alloc, &self.path, &self.schedule, processors)? {
-            return Ok(Turn::Found);
+            return Ok(SearchTurn::Found);
         }
         let turn = self.up(processors, seed, aim, places)?;
         Ok(turn)
@@ -154,7 +154,7 @@ impl<'a> Search<'a> {
         seed: u64,
         aim: &A,
         places: &mut T,
-    ) -> Result<Turn, ExploreFault>
+    ) -> Result<SearchTurn, ExploreFault>
         requires processors { processors ≡ length self.old.path.setting.scripts }
         requires some { self.old.next < processors }
         requires schedule { self.old.schedule ≡ schedule_of self.old.path.news }
@@ -171,11 +171,11 @@ impl<'a> Search<'a> {
         let cpu = cpu_at(processors, seed, self.schedule.len(), self.next);
         if !aim.may_try(&self.path, &self.schedule, cpu) {
             self.next += 1;
-            return Ok(Turn::On);
+            return Ok(SearchTurn::On);
         }
         if !self.path.forward(alloc, cpu)? {
             self.next += 1;
-            return Ok(Turn::On);
+            return Ok(SearchTurn::On);
         }
         self.schedule.push(Cpu(cpu))?;
         self.visited.go_on(
@@ -196,7 +196,7 @@ impl<'a> Search<'a> {
         seed: u64,
         aim: &A,
         places: &mut T,
-    ) -> Result<Turn, AllocError>
+    ) -> Result<SearchTurn, AllocError>
         requires processors { processors ≡ length self.old.path.setting.scripts }
         requires schedule { self.old.schedule ≡ schedule_of self.old.path.news }
         requires arriving { IsArriving (A.shows aim.now self.old.path.setting) seed self.old.path
@@ -217,7 +217,7 @@ impl<'a> Search<'a> {
             return self.up(processors, seed, aim, places);
         }
         self.next = 0;
-        Ok(Turn::New)
+        Ok(SearchTurn::New)
     }
 
     /// Leaves the place, which is done: takes the latest call back, and moves on to the call after
@@ -228,7 +228,7 @@ impl<'a> Search<'a> {
         seed: u64,
         aim: &A,
         places: &mut T,
-    ) -> Result<Turn, AllocError>
+    ) -> Result<SearchTurn, AllocError>
         requires processors { processors ≡ length self.old.path.setting.scripts }
         requires schedule { self.old.schedule ≡ schedule_of self.old.path.news }
         requires leaving { IsLeaving (A.shows aim.now self.old.path.setting) seed self.old.path
@@ -246,9 +246,9 @@ impl<'a> Search<'a> {
                 self.visited.go_back();
                 self.path.is_played();
                 self.next = number_at(processors, seed, self.schedule.len(), cpu.0) + 1;
-                Ok(Turn::On)
+                Ok(SearchTurn::On)
             }
-            None => Ok(Turn::Over),
+            None => Ok(SearchTurn::Over),
         }
     }
 

@@ -20,17 +20,11 @@ use Rattle.hp_units.specs.Rows.{is_going, online_block}
 use Rattle.hp_units.specs.Boot.{boot_block, boot_memory, empty_memory}
 use Rattle.hp_units.specs.Placement.{IsKernelAt, IsWellPlaced, cached_places, free_places, kernel_places, mapped_places, offline_places, places_from}
 use Rattle.hp_units.proofs.KernelBlockFrames.{kernel_covered}
+use Rattle.hp_units.proofs.Lists.{at_replicate as same_everywhere}
 use Rattle.hp_laws.proofs.Rows.{unplugged-placed}
 use Rattle.hp_laws.proofs.Onlines.{online_block-placed}
 
 -- ---- nothing is anywhere in an empty memory
-
-same_everywhere : {X : Type 0} (n i : ℕ) (d : X) → get_or (replicate n d) i d ≡ d
-same_everywhere n i d =
-    elim (cases_lt i n) [
-      | inl low ↦ get_or-replicate n i d d low
-      | inr high ↦ get_or_past _ i d (omega (arith, length-replicate n d))
-    ]
 
 no_free : (frame number n : ℕ) → places_from frame number (replicate n []) ≡ 0
 no_free frame number zero = refl

@@ -62,4 +62,3 @@ pub mod RenumberedRows
 pub mod RenumberedSteps
 pub mod Alike
 pub mod Numbered
-pub mod NumberedOptions

@@ -7,7 +7,7 @@ use Rattle.std.proofs.lemmas.Bool.{cases_Bool, eqb-true, le-leb}
 use Rattle.std.proofs.lemmas.Option.{same_Some}
 use Rattle.hp_laws.specs.Numberings.{index_of, number_of, place_of}
 use Rattle.hp_laws.specs.Renumbered.{IsOneToOne}
-use Rattle.hp_laws.proofs.NumberedOptions.{cases_option}
+use Rattle.hp_laws.proofs.Options.{cases_option}
 
 -- the entry at the index is the number
 index_sound : (op : ℕ) (xs : List ℕ) (i : ℕ) → index_of op xs ≡ Some i → slice_get xs i ≡ Some op

@@ -28,7 +28,7 @@ use Rattle.hp_units.specs.Step.{auto_online, done, give_back, kernel_gives, kern
 use Rattle.hp_units.specs.declared.plans.Item.{Item}
 use Rattle.hp_units.specs.declared.rows.Row.{Row}
 use Rattle.hp_laws.specs.Renumbered.{IsOneToOne, renumbered, renumbered_answer, renumbered_event, renumbered_row}
-use Rattle.hp_laws.proofs.NumberedOptions.{cases_option}
+use Rattle.hp_laws.proofs.Options.{cases_option}
 use Rattle.hp_laws.proofs.RenumberedRows.{absent_same, blocks_same, claimed_same, going_blocks_same, live_same, offline_same, online_same, row_same, zone_same}
 
 -- ---- refusals

@@ -13,7 +13,7 @@ use Rattle.hp_buddy.specs.Buddy.{AreApart, BuddyValue, HasBlockMore, MayBeGiven}
 use Rattle.hp_units.proofs.Places.{covered-in, covered-out}
 use Rattle.hp_buddy.specs.Cpus.{frames_of}
 use Rattle.hp_buddy.proofs.Besides.{notes-beside, notes-then}
-use Rattle.hp_buddy.proofs.Scripts.{one_done}
+use Rattle.hp_buddy.proofs.Rooms.{one_done}
 use Rattle.hp_layers.specs.declared.frames.Frames.{Frames}
 use Rattle.hp_layers.specs.Frames.{IsGiven, IsTidy, MayReturn, free_of, places_of}
 use Rattle.hp_layers.proofs.Taken.{tidy-less, with_buddy}

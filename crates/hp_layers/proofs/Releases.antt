@@ -20,7 +20,7 @@ use Rattle.hp_tape.specs.Deltas.{Fits, undo}
 use Rattle.hp_tape.specs.Tapes.{NotesBlocks, NotesFree, TapeValue}
 use Rattle.hp_tape.proofs.Leads.{notes-more}
 use Rattle.hp_pages.specs.Blocks.{BlocksValue}
-use Rattle.hp_buddy.proofs.Scripts.{one_done}
+use Rattle.hp_buddy.proofs.Rooms.{one_done}
 use Rattle.hp_layers.specs.declared.frames.Frames.{Frames}
 use Rattle.hp_layers.specs.declared.layers.Layers.{Layers}
 use Rattle.hp_layers.specs.Frames.{IsGiven, IsTidy, free_of}

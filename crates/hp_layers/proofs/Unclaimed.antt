@@ -1,10 +1,9 @@
 -- Memory blocks that no operation holds before one begins.
-use Rattle.std.proofs.Common.{◌≡◌, ◌≢◌, ℕ, List, false, Option, Some, None, IfSome, refl, ap, ◌∙◌, eqb-true, ◌==◌}
+use Rattle.std.proofs.Common.{◌≡◌, ◌≢◌, ℕ, List, Option, Some, None, IfSome, refl, ap, ◌∙◌, eqb-true, ◌==◌}
 use Rattle.std.specs.Prelude.{find}
-use Rattle.std.specs.Option.{is_some, option_map, option_map_or}
+use Rattle.std.specs.Option.{option_map, option_map_or}
 use Rattle.std.proofs.lemmas.List.{get_or-set_other}
 use Rattle.hp_units.specs.declared.plans.Item.{Item}
-use Rattle.hp_units.specs.declared.rows.Claim.{Claim}
 use Rattle.hp_units.specs.declared.rows.Wish.{Wish}
 use Rattle.hp_units.specs.declared.rows.Wish.TheVariants.{Off as OffWish, Normal as NormalWish, Movable as MovableWish}
 use Rattle.hp_units.specs.Choices.{first_some}
@@ -12,6 +11,7 @@ use Rattle.hp_units.specs.LayoutParts.{LayoutParts}
 use Rattle.hp_units.specs.Memory.{Blocks, Memory, offline_row, row_of}
 use Rattle.hp_units.specs.Refusals.{plan_refusals}
 use Rattle.hp_units.specs.Rows.{begin_block, claim_block, claimed_row, is_claimed, wish_of}
+use Rattle.hp_laws.proofs.EventSteps.{not_there as not-some}
 use Rattle.hp_laws.proofs.Options.{found_fails, found_passes, map_none}
 use Rattle.hp_laws.proofs.OwnedContents.{all_none}
 use Rattle.hp_layers.specs.declared.layers.Layers.{Layers}
@@ -48,10 +48,6 @@ pub unclaimed-still : (plan : List Item) (bs first : Blocks) (block : ℕ)
 unclaimed-still plan bs first block same none = rw same (none block)
 
 -- ---- a plan that isn't refused
-
-not-some : (o : Option Claim) → is_some o ≡ false → o ≡ None
-not-some None e = refl
-not-some (Some claim) e = absurd cc
 
 -- no operation holds any of its blocks
 pub plan-unclaimed : (l : LayoutParts) (s : Memory) (plan : List Item)

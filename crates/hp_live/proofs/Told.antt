@@ -11,7 +11,7 @@ use Rattle.hp_scenario.specs.Asked as asks
 use Rattle.hp_scenario.specs.Asked.{asked_by}
 use Rattle.hp_scenario.specs.Names.{Numbered, line_in}
 use Rattle.hp_scenario.specs.declared.lines.Line.{Line}
-use Rattle.hp_text.specs.Files.{write_fault_line}
+use Rattle.hp_text.specs.FileFaults.{write_fault_line}
 use Rattle.hp_text.specs.Plans.{plan_line}
 use Rattle.hp_commands.specs.Files.{cat_text}
 use Rattle.hp_scripts.specs.Bindings.{Bound, bound_after}

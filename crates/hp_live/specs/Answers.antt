@@ -12,7 +12,7 @@ use Rattle.hp_machine.specs.Machine.{IsCalled, MachineValue}
 use Rattle.hp_machine.specs.MachinePorts.{HasCause, IsPlanRun}
 use Rattle.hp_scenario.specs.Asked as asks
 use Rattle.hp_text.specs.Answers.{reply_line, sealed_line, unrecorded_line}
-use Rattle.hp_text.specs.Files.{write_fault_line}
+use Rattle.hp_text.specs.FileFaults.{write_fault_line}
 use Rattle.hp_text.specs.Plans.{plan_line}
 use Rattle.hp_commands.specs.Events.{WritesEvent}
 use Rattle.hp_commands.specs.Files.{WritesFile}

@@ -1,8 +1,8 @@
 //! A live machine: it replies to lines one at a time, as `hotplug serial` replies to a scenario's.
 //!
 //! The crate owns a session and the form of its replies: as text, as an object of JSON, and in
-//! rows. It reads no stream: hp_streams does. hp_scenario defines what a line is, hp_commands what is
-//! written for it, and hp_trace how its rows are drawn.
+//! rows. It reads no stream: hp_streams does. hp_scenario defines what a line is, hp_commands what
+//! is written for it, and hp_trace how its rows are drawn.
 //!
 //! Read specs/Sessions first: what an answer is, and what a sequence of answers amounts to. Then
 //! specs/Talks and specs/RowTalks: the reply to a line.

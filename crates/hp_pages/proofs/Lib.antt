@@ -8,5 +8,5 @@ pub mod Tables
 pub mod Views
 mod WordCalls
 mod Kernel
-mod Notes
+mod RowNotes
 mod Values

@@ -1,4 +1,4 @@
--- Parts of the layer's view: buffers, pages, tapes, and the view without pages.
+-- Parts of the view of the layer of pages: buffers, pages, tapes, and the view without pages.
 use Rattle.std.proofs.Common.{◌≡◌, ℕ, zero, suc, ◌<◌, ◌+◌, List, [], ◌∷◌, ◌++◌, length, get_or, set, map, take, replicate, Option, Some, None, refl, subst, arith}
 use Rattle.std.specs.Prelude.{IfSome, option_map}
 use Rattle.std.specs.List.{AllByRecursion, range_with_len}

@@ -1,4 +1,4 @@
--- What the calls of the table keep and return.
+-- What the calls of the page table keep and return.
 use Rattle.std.proofs.Common.{◌≡◌, ℕ, zero, suc, map, ◌<◌, ◌≤◌, ◌+◌, ◌-◌, ◌*◌, ◌/◌, ◌%◌, ◌^◌, Bool, false, ltb, List, [], ◌∷◌, length, get_or, set, replicate, Option, Some, None, refl, sym, ap, ◌∙◌, subst, arith}
 use Rattle.std.specs.Prelude.{IfSome, find, is_some}
 use Rattle.std.specs.List.{AllByRecursion, range_with_len}

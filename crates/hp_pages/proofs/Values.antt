@@ -1,4 +1,4 @@
--- A value of the layer by its parts.
+-- A value of the layer of memory blocks, by its parts.
 use Rattle.std.proofs.Common.{List}
 use Rattle.hp_units.specs.LayoutParts.{LayoutParts}
 use Rattle.hp_units.specs.declared.rows.Auto.{Auto}

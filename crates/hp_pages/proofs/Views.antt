@@ -1,5 +1,5 @@
--- The calls of the layer and the definitions of the rules: the frame view of the pages after a rule
--- is what the call makes of the frame view before, if no frame holds two pages.
+-- The calls of the layer of pages and the definitions of the rules: the frame view of the pages
+-- after a rule is what the call makes of the frame view before, if no frame holds two pages.
 use Rattle.std.proofs.Common.{◌≡◌, ℕ, ◌<◌, ◌≤◌, true, false, List, [], length, set, Option, Some, None, refl, sym, ap, ◌∙◌, arith}
 use Rattle.std.specs.Prelude.{IfSome, is_some, slice_index, unwrap_or}
 use Rattle.std.specs.Option.{option_and_then}

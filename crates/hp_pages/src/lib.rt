@@ -15,9 +15,9 @@ mod buffers;
 mod frame_set;
 mod kernel_blocks;
 mod laws;
+mod page_table;
 mod pages;
 mod place_sums;
-mod table;
 
 pub use blocks::Blocks;
 pub use buffers::is_blank;

@@ -11,7 +11,7 @@ ghost use Rattle.hp_pages.specs.Pages.{ArePageFramesOf, AreSettled, change_at, m
 ghost use Rattle.hp_pages.specs.Places.{holders};
 
 use crate::buffers::{Buffers, is_blank_beside, zeros};
-use crate::table::Table;
+use crate::page_table::Table;
 use hp_tape::{Delta, FrameChange, Tape};
 use hp_units::{Frame, Layout, Owner, Page, Words};
 use std::alloc::{AllocError, Global};

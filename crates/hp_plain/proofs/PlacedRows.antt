@@ -9,7 +9,7 @@ use Rattle.hp_units.specs.Arithmetic.{frame_count, pageblock_count}
 use Rattle.hp_units.specs.Memory.{offline_row, plain_kind}
 use Rattle.hp_units.specs.Placement.{IsKernelAt, IsRow, kind_at, row_at}
 use Rattle.hp_units.proofs.Placed.{size_some}
-use Rattle.hp_plain.specs.PlacingNames.{Kind, Row}
+use Rattle.hp_plain.specs.Names.{Kind, Row}
 use Rattle.hp_plain.specs.Placing.{AreKinds, AreRows, IsKernelPlaced, IsKind, mark_of, unplugged}
 
 -- a frame past the last one is as if offline

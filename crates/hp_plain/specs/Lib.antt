@@ -2,5 +2,4 @@ pub mod Asked
 pub mod Image
 pub mod Names
 pub mod Plans
-pub mod PlacingNames
 pub mod Placing

@@ -4,7 +4,7 @@ use Rattle.std.specs.Prelude.{◌≡◌, ℕ, zero, suc, ◌+◌, ◌<◌, ◌�
 use Rattle.std.specs.List.{enumerate_from}
 use Rattle.std.specs.Option.{option_map_or}
 use Rattle.hp_units.specs.Numbers.{Frame, Order, Pageblock, Block, Cpu, Owner, Page}
-use Rattle.hp_plain.specs.PlacingNames.{NormalZone, Unmovable, Class, Pool, NuPool, NmPool, MmPool, Kind, Row}
+use Rattle.hp_plain.specs.Names.{NormalZone, Unmovable, Class, Pool, NuPool, NmPool, MmPool, Kind, Row}
 use Rattle.hp_units.specs.LayoutParts.{LayoutParts}
 use Rattle.hp_units.specs.Arithmetic.{block_of, buddy, pageblock_of}
 use Rattle.hp_units.specs.Memory.{FreeAreas, FreeFrames, Memory, Pages, cached_list, free_list, offline_row}

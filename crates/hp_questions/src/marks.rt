@@ -13,10 +13,10 @@ use std::alloc::{AllocError, Global};
 
 /// Appends the marks of the place in a search to which these records lead. The first mark is the
 /// number of records. If a wanted line is about the place of a reply (`EndLine::AnswerAt`), the
-/// number of replies to each processor below `processors` follows. For each wanted line, the mark is
-/// 1 if the records have the line so far, else 0; this is also so for a line that an end must not
-/// have. A line about a memory block always gets 0. Returns whether each number fits 32 bits. If
-/// not, `numbers` gets only some of the marks.
+/// number of replies to each processor below `processors` follows. For each wanted line, the mark
+/// is 1 if the records have the line so far, else 0; this is also so for a line that an end must
+/// not have. A line about a memory block always gets 0. Returns whether each number fits 32 bits.
+/// If not, `numbers` gets only some of the marks.
 ///
 /// Suppose that two places have the same marks. If the same further calls get the same replies
 /// after both, further plans end alike, and the rows at the end are equal, then both ends meet the

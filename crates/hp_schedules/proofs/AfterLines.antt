@@ -7,7 +7,7 @@ use Rattle.hp_units.specs.declared.replies.Receipt.{Receipt}
 use Rattle.hp_schedules.specs.Scripts.{Known, after_line, after_lines, line_next, next_in, nothing_known}
 use Rattle.hp_schedules.specs.declared.scripts.Step.{Step}
 use Rattle.hp_schedules.specs.declared.scripts.Step.TheVariants.{Own}
-use Rattle.hp_laws.proofs.NumberedOptions.{cases_option}
+use Rattle.hp_laws.proofs.Options.{cases_option}
 use Rattle.hp_schedules.proofs.Lines.{over_now}
 
 -- ---- one line

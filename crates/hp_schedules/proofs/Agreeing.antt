@@ -17,7 +17,7 @@ use Rattle.hp_schedules.specs.declared.scripts.OwnWork.TheVariants.{Latest, Nth,
 use Rattle.hp_schedules.specs.declared.scripts.Step.{Step}
 use Rattle.hp_schedules.specs.declared.scripts.Step.TheVariants.{Ask, Own, Carry}
 use Rattle.hp_schedules.proofs.AfterLines.{any_known}
-use Rattle.hp_laws.proofs.NumberedOptions.{cases_option}
+use Rattle.hp_laws.proofs.Options.{cases_option}
 
 -- ---- results with further receipts
 

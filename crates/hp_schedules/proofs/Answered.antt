@@ -22,7 +22,7 @@ use Rattle.hp_schedules.proofs.AfterLines.{after_more, all_over, first_then, lin
 use Rattle.hp_schedules.proofs.Asked.{at_first, lines_here}
 use Rattle.hp_schedules.proofs.Begun.{IsPush, none_before, push_cases, some_after}
 use Rattle.hp_schedules.proofs.LineAnswers.{answers_kept, answers_past, first_on, none_begun, without_is}
-use Rattle.hp_laws.proofs.NumberedOptions.{cases_option}
+use Rattle.hp_laws.proofs.Options.{cases_option}
 use Rattle.hp_schedules.proofs.OneCalls.{asks_once, finished_once}
 use Rattle.hp_schedules.proofs.UpTo.{before_many, here_at, past_end, up_to}
 

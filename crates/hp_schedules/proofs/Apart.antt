@@ -7,7 +7,7 @@ use Rattle.hp_schedules.specs.Orders.{Extends, HasCount}
 use Rattle.hp_schedules.proofs.Counting.{none_listed, same_count}
 use Rattle.hp_schedules.proofs.Counts.{one_more}
 use Rattle.std.proofs.Math.Seq.{drop-append_seam}
-use Rattle.hp_laws.proofs.NumberedOptions.{cases_option}
+use Rattle.hp_laws.proofs.Options.{cases_option}
 use Rattle.hp_schedules.proofs.Uniqueness.{only_count}
 
 -- ---- those of one kind among a list's

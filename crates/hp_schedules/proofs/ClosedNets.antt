@@ -12,7 +12,7 @@ use Rattle.hp_units.specs.declared.replies.Record.{Record}
 use Rattle.hp_laws.proofs.Records.{with_good}
 use Rattle.hp_laws.proofs.Replays.{net_bad}
 use Rattle.hp_schedules.specs.Alike.{IsClosed, closed_after, closed_by, is_closed}
-use Rattle.hp_laws.proofs.NumberedOptions.{cases_option}
+use Rattle.hp_laws.proofs.Options.{cases_option}
 
 -- a place further on
 further_on : (n m : ℕ) (o : Option ℕ) → n + 1 ≡ m

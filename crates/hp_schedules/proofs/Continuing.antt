@@ -15,7 +15,7 @@ use Rattle.hp_schedules.specs.Continuing.{AreSameBy, ContinueAlike, ContinuesAs,
 use Rattle.hp_schedules.specs.Outcomes.{ended_row, ended_rows_below}
 use Rattle.hp_schedules.specs.Schedules.{Setting, next_call, play_one, plays, record_of_call}
 use Rattle.hp_schedules.proofs.JoinedBy.{IsSameRecord}
-use Rattle.hp_laws.proofs.NumberedOptions.{cases_option}
+use Rattle.hp_laws.proofs.Options.{cases_option}
 use Rattle.hp_schedules.proofs.SameCalls.{call_leaves, call_same, event_kept, record_same, same_more}
 use Rattle.hp_schedules.proofs.Plays.{from_news, plays_on, recorded, stays_none}
 

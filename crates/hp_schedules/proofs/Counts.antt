@@ -1,11 +1,11 @@
 -- How many schedules there are of a kind, and what the ends say after one schedule more.
-use Rattle.std.proofs.Common.{◌≡◌, ℕ, zero, suc, ◌+◌, ◌<◌, List, [], ◌∷◌, ◌++◌, length, Some, slice_get, set, refl, ap, sym, subst, ◌∙◌, arith, inl, inr}
+use Rattle.std.proofs.Common.{◌≡◌, ℕ, zero, suc, ◌+◌, List, [], ◌∷◌, ◌++◌, length, Some, slice_get, set, refl, ap, sym, subst, ◌∙◌, arith, inl, inr}
 use Rattle.std.specs.Prelude.{◌⊎◌, sum_by}
 use Rattle.std.proofs.lemmas.List.{length_push}
 use Rattle.std.proofs.lemmas.List.Sums.{sum_by_push, sum_by-set}
 use Rattle.std.proofs.lemmas.Option.{slice_get_within, get_or_from_slice_get}
 use Rattle.std.proofs.lemmas.Bool.{cases_eq}
-use Rattle.hp_units.proofs.Tables.{get_set}
+use Rattle.hp_units.proofs.Tables.{get_set as get_set_here}
 use Rattle.hp_laws.proofs.Lists.{get_push_cases, get_end}
 use Rattle.hp_schedules.specs.declared.tally.Ending.{Ending}
 use Rattle.hp_schedules.specs.Ends.{AreCounted}
@@ -28,10 +28,6 @@ get_set_cases (z ∷ xs) (suc k) y zero x h = inr (λ e. absurd cc, h)
 get_set_cases (z ∷ xs) (suc k) y (suc j) x h =
     elim (get_set_cases xs k y j x h)
     [ inl e ↦ inl (ap suc e.0, e.1) | inr e ↦ inr (λ same. e.0 (omega arith), e.1) ]
-
-pub get_set_here : {A : Type 0} (xs : List A) (k : ℕ) (y : A) → k < length xs
-    → slice_get (set xs k y) k ≡ Some y
-get_set_here xs k y h = get_set xs k y h
 
 pub get_set_other : {A : Type 0} (xs : List A) (k : ℕ) (y : A) (j : ℕ) (x : A) → (j ≡ k → ⊥)
     → slice_get xs j ≡ Some x → slice_get (set xs k y) j ≡ Some x

@@ -20,7 +20,7 @@ use Rattle.hp_schedules.proofs.Coefficients.{only_one}
 use Rattle.hp_schedules.proofs.Counting.{same_count}
 use Rattle.hp_schedules.proofs.Interleaved.{HasTurns, interleaved, turns_cons}
 use Rattle.hp_schedules.proofs.Agreeing.{each_passes}
-use Rattle.hp_laws.proofs.NumberedOptions.{cases_option}
+use Rattle.hp_laws.proofs.Options.{cases_option}
 use Rattle.hp_schedules.proofs.OneCalls.{asks_once, skips, stays}
 use Rattle.hp_schedules.proofs.Plays.{from_news, stays_none}
 use Rattle.hp_schedules.proofs.Steps.{receipts_push}

@@ -14,7 +14,7 @@ use Rattle.hp_schedules.specs.Scripts.{after_line, after_lines, nothing_known}
 use Rattle.hp_schedules.specs.declared.scripts.Step.{Step}
 use Rattle.hp_schedules.specs.declared.scripts.Step.TheVariants.{Carry}
 use Rattle.hp_schedules.proofs.AfterLines.{after_more, after_parts, first_then}
-use Rattle.hp_laws.proofs.NumberedOptions.{cases_option}
+use Rattle.hp_laws.proofs.Options.{cases_option}
 use Rattle.hp_schedules.proofs.Steps.{receipts_push}
 
 -- ---- the first line

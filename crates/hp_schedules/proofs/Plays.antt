@@ -11,7 +11,7 @@ use Rattle.hp_units.specs.declared.replies.Reply.{Reply}
 use Rattle.hp_schedules.specs.Outcomes.{OutcomeValue}
 use Rattle.hp_schedules.specs.Orders.{Extends}
 use Rattle.hp_schedules.specs.Schedules.{EndsWith, Setting, outcome_after, next_call, play_one, plays, record_of_call}
-use Rattle.hp_laws.proofs.NumberedOptions.{cases_option}
+use Rattle.hp_laws.proofs.Options.{cases_option}
 
 -- what is played from some records on
 abbrev pub from_news : Setting → List Record → List ℕ → Option (List Record)

@@ -25,7 +25,7 @@ use Rattle.hp_schedules.specs.Scripts.{next_of}
 use Rattle.hp_schedules.specs.declared.scripts.Step.{Step}
 use Rattle.hp_schedules.proofs.JoinedBy.{IsSameRecord, cancelled_same, joined_more}
 use Rattle.hp_schedules.proofs.Agreeing.{script_mergeable}
-use Rattle.hp_laws.proofs.NumberedOptions.{cases_option}
+use Rattle.hp_laws.proofs.Options.{cases_option}
 use Rattle.hp_schedules.proofs.Steps.{receipts_push}
 use Rattle.hp_schedules.proofs.Unnumbered.{lines_leave}
 

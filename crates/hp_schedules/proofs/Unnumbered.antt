@@ -15,7 +15,7 @@ use Rattle.hp_units.specs.declared.replies.Receipt.{Receipt}
 use Rattle.hp_units.specs.declared.replies.Refusal.TheVariants.{NoFrame, NothingToMove, NotFree}
 use Rattle.hp_units.specs.declared.replies.Reply.{Reply}
 use Rattle.hp_units.specs.declared.replies.Reply.TheVariants.{Done, Moved, Opened, Refused}
-use Rattle.hp_laws.proofs.NumberedOptions.{cases_option}
+use Rattle.hp_laws.proofs.Options.{cases_option}
 use Rattle.hp_schedules.specs.Alike.{is_mergeable_line, leaves_steps, unnumbered}
 use Rattle.hp_schedules.specs.Scripts.{Known, after_line, line_next, next_in, once, step_work_of, work_of}
 use Rattle.hp_schedules.specs.declared.scripts.OwnWork.{OwnWork}

@@ -33,8 +33,8 @@ impl Positions {
         Ok(Positions { cursors })
     }
 
-    /// Returns the processor's next call after the new records, or `None` if it has no script or its
-    /// script is finished.
+    /// Returns the processor's next call after the new records, or `None` if it has no script or
+    /// its script is finished.
     ///
     /// Looks through the records only if the call's line works on an earlier result by its number.
     pub fn request(

@@ -210,7 +210,8 @@ pub(crate) fn later_operation(op: Serial, serial: Serial, event: &Event) -> Seri
     }
 }
 
-/// Returns the greatest operation that a line of the scripts names by its number, or 0 if none does.
+/// Returns the greatest operation that a line of the scripts names by its number, or 0 if none
+/// does.
 ///
 /// A search may give other numbers to the operations above it, since no line can tell them apart.
 pub fn greatest_named(scripts: &[CallScript]) -> Serial

@@ -4,9 +4,10 @@ use Rattle.std.specs.Prelude.{sum_by}
 use Rattle.std.proofs.lemmas.List.{take_more}
 use Rattle.std.proofs.lemmas.List.Sums.{sum_by_more_le, sum_by_push, sum_by-set}
 use Rattle.std.proofs.lemmas.Option.{get_or_from_slice_get, same_Some, slice_get_within}
+use Rattle.hp_units.proofs.Tables.{get_set as get_set_here}
 use Rattle.hp_laws.proofs.Lists.{get_end, get_push_cases}
 use Rattle.hp_schedules.proofs.Counting.{get_longer}
-use Rattle.hp_schedules.proofs.Counts.{end_stays, get_set_cases, get_set_here}
+use Rattle.hp_schedules.proofs.Counts.{end_stays, get_set_cases}
 use Rattle.hp_schedules.specs.Ends.{AreInOrder}
 use Rattle.hp_schedules.specs.Orders.{IsBefore}
 use Rattle.hp_schedules.specs.Outcomes.{OutcomeValue}

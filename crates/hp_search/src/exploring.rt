@@ -12,9 +12,9 @@ use hp_explore::{ExploreFault, Watch, explore_with_jobs};
 use std::alloc::Global;
 use std::thread::Threads;
 
-/// Explores the scenario in `input`, in `jobs` threads, at most 256: counts all interleavings of its
-/// scripts' calls, or the first `limit` if there are more. If `watch` ends the search, the first
-/// ones up to that point are counted.
+/// Explores the scenario in `input`, in `jobs` threads, at most 256: counts all interleavings of
+/// its scripts' calls, or the first `limit` if there are more. If `watch` ends the search, the
+/// first ones up to that point are counted.
 ///
 /// The first `setup` lines are run in order. Each later line goes to the script of its processor,
 /// where operation 0 is the one that the processor began last.

@@ -10,6 +10,7 @@ use Rattle.std.proofs.lemmas.Option.{slice_get-get_or, slice_get_within}
 use Rattle.hp_units.specs.Receipts.{DifferAt, receipt_of, receipts_of}
 use Rattle.hp_units.specs.declared.replies.Receipt.{Receipt}
 use Rattle.hp_units.specs.declared.replies.Record.{Record}
+use Rattle.hp_units.proofs.Tables.{get_set as set_here}
 use Rattle.hp_laws.proofs.Lists.{get_end, get_left, get_push_cases}
 use Rattle.hp_machine.proofs.Replies.{receipts_more}
 use Rattle.hp_shared.specs.declared.marks.Compared.{Compared}
@@ -24,11 +25,6 @@ use Rattle.hp_laws.proofs.Replays.{take_one}
 -- what stands at one place is one item
 pub same_item : {X : Type 0} (o : Option X) (x y : X) → o ≡ Some x → o ≡ Some y → x ≡ y
 same_item o x y a b = let e : Some x ≡ Some y = sym a ∙ b in cc
-
-set_here : {X : Type 0} (xs : List X) (i : ℕ) (x : X) → i < length xs → slice_get (set xs i x) i ≡ Some x
-set_here [] i x within = absurd (omega arith)
-set_here (y ∷ xs) zero x within = refl
-set_here (y ∷ xs) (suc i) x within = set_here xs i x (omega arith)
 
 set_there : {X : Type 0} (xs : List X) (i k : ℕ) (x y : X) → k ≢ i → slice_get xs k ≡ Some y
     → slice_get (set xs i x) k ≡ Some y

@@ -5,8 +5,8 @@
 //! and `SeatPort` for a plan's driver) and the end (`close`). Ledgers of std tie the seats' counts
 //! to the machine's. It also owns what a worker does with a line (`lines`) and a script (`worker`),
 //! how threads are started and joined (`threads`), and the gate around each call and each seal
-//! (`gate`, `port`). Workers call the machine only through seats. Each call takes the lock and lets
-//! it go, the calls of a plan too, and so does each seal. Nothing here prints or parses.
+//! (`gate`, `gated_port`). Workers call the machine only through seats. Each call takes the lock
+//! and lets it go, the calls of a plan too, and so does each seal. Nothing here prints or parses.
 //!
 //! Read `locked` first, then `seat` and `closing`; `volumes`, `marks` and `comparing` serve
 //! `close`. Read `threads` for `run_workers`.
@@ -17,11 +17,11 @@ mod comparing;
 mod counts;
 mod fault;
 mod gate;
+mod gated_port;
 mod job;
 mod lines;
 mod locked;
 mod marks;
-mod port;
 mod seat;
 mod seat_port;
 mod shared;

@@ -6,7 +6,7 @@ ghost use Rattle.hp_scenario.specs.Seen.{asked_seen};
 ghost use Rattle.hp_shared.specs.Lines.{IsAskedRun, IsCallsRun, IsEventRun, IsLineRun, IsPlanRun, IsPortRun};
 
 use crate::gate::Gate;
-use crate::port::GatedPort;
+use crate::gated_port::GatedPort;
 use crate::{Job, Seat, Shared};
 use hp_history::Volume;
 use hp_ops::{Port, run_plan};

@@ -6,13 +6,14 @@ use Rattle.std.proofs.lemmas.Option.{slice_get_within}
 use Rattle.hp_units.specs.Receipts.{receipt_of, receipts_of}
 use Rattle.hp_units.specs.declared.replies.Receipt.{Receipt}
 use Rattle.hp_units.specs.declared.replies.Record.{Record}
+use Rattle.hp_units.proofs.Tables.{get_set as get_set_here}
 use Rattle.hp_laws.proofs.Lists.{get_some}
 use Rattle.hp_schedules.specs.Alike.{exchanges, unnumbered}
 use Rattle.hp_states.specs.Exchanges.{AreAmong, AreExchanged, ExchangesValue, IsBefore, IsChained, at_end, chains_of, exchange_below, exchange_in, exchange_of}
 use Rattle.hp_states.specs.Interned.{IsMadeOf, KeepNumbers}
 use Rattle.hp_schedules.specs.Schedules.{Setting}
 use Rattle.hp_states.specs.declared.exchanges.Exchange.{Exchange}
-use Rattle.hp_schedules.proofs.Counts.{get_set_cases, get_set_here, get_set_other}
+use Rattle.hp_schedules.proofs.Counts.{get_set_cases, get_set_other}
 use Rattle.hp_states.proofs.Numberings.{keep_long, made_added}
 use Rattle.hp_schedules.proofs.Steps.{receipts_push}
 

@@ -18,7 +18,7 @@ use Rattle.hp_schedules.specs.Openings.{AreOpen, NumberedOpening, Opening, after
 use Rattle.hp_schedules.specs.declared.changes.Change.{Change}
 use Rattle.hp_schedules.specs.Schedules.{Setting}
 use Rattle.hp_schedules.specs.declared.changes.Change.TheVariants.{Stays, Begins, Works, Cancels, Ends}
-use Rattle.hp_states.specs.declared.openings.Entry.{Entry}
+use Rattle.hp_states.specs.declared.openings.OpeningEntry.{OpeningEntry}
 use Rattle.hp_states.proofs.Numberings.{made_added}
 use Rattle.hp_laws.specs.Renumbered.{renumbered}
 use Rattle.hp_schedules.proofs.JoinedBy.{cancel_same, work_same}
@@ -63,7 +63,7 @@ named_cancel l codes op _ _ named = absurd named
 
 -- ---- a number that is made, and one that is found
 
-pub front_added : (old new : List Entry) (e : Entry) (number : ℕ) → new ≡ old ++ e ∷ []
+pub front_added : (old new : List OpeningEntry) (e : OpeningEntry) (number : ℕ) → new ≡ old ++ e ∷ []
     → number ≡ length old + 1
     → IsInFront (openings_of old) (openings_of new) e.op e.state e.below number
 front_added old new e number is number_is os h =
@@ -80,7 +80,7 @@ made_empty f lists n m none is empty here =
     rw is (λ os h. (m, refl, rw (empty os h, none) here))
 
 -- else the list is that of the entry
-module _ (lists : List (List NumberedOpening)) {was : Option ℕ} {n : ℕ} (op : ℕ) (e : Entry)
+module _ (lists : List (List NumberedOpening)) {was : Option ℕ} {n : ℕ} (op : ℕ) (e : OpeningEntry)
     (is : was ≡ Some n) (made : IsEntryOf lists n e) where
   made_first : (f : List NumberedOpening → List NumberedOpening) (m : ℕ)
       → slice_get lists m ≡ Some (f (opening_of e ∷ made.0)) → IsMadeBy f lists was (Some m)

@@ -10,29 +10,29 @@ use Rattle.hp_schedules.specs.Openings.{AreOpen, NumberedOpening, Opening, after
 use Rattle.hp_schedules.specs.Schedules.{Setting}
 use Rattle.hp_schedules.specs.declared.changes.Change.{Change}
 use Rattle.hp_schedules.specs.declared.changes.Change.TheVariants.{Stays, Begins, Works, Cancels, Ends}
-use Rattle.hp_states.specs.declared.openings.Entry.{Entry}
+use Rattle.hp_states.specs.declared.openings.OpeningEntry.{OpeningEntry}
 use Rattle.hp_states.specs.Interned.{IsMadeOf, lists_from}
 
 -- ---- lists of openings
 
 -- the operation in an entry, with the number of the state before its Begin
-abbrev pub opening_of : Entry → NumberedOpening
+abbrev pub opening_of : OpeningEntry → NumberedOpening
 opening_of e = record { op = e.op; memory = e.state }
 
 -- the list with the entry's operation in front
-abbrev pub in_front : Entry → List NumberedOpening → List NumberedOpening
+abbrev pub in_front : OpeningEntry → List NumberedOpening → List NumberedOpening
 in_front e os = opening_of e ∷ os
 
 -- the number of the list that an entry extends
-abbrev pub entry_below : Entry → ℕ
+abbrev pub entry_below : OpeningEntry → ℕ
 entry_below e = e.below
 
 -- the empty list, and one per entry: an entry puts its operation in front of an earlier list
-abbrev pub openings_of : List Entry → List (List NumberedOpening)
+abbrev pub openings_of : List OpeningEntry → List (List NumberedOpening)
 openings_of entries = lists_from entry_below in_front entries
 
 -- the entry made the list with this number
-abbrev pub IsEntryOf : List (List NumberedOpening) → (number : ℕ) → Entry → Type 0
+abbrev pub IsEntryOf : List (List NumberedOpening) → (number : ℕ) → OpeningEntry → Type 0
 IsEntryOf lists number entry = IsMadeOf entry_below in_front lists number entry
 
 -- list `number` of `new` is list `below` of `old` with the operation `op` in front; `state` is the

@@ -125,7 +125,8 @@ impl Memo {
 
     /// Numbers the state at the place, writes the place's key, and returns whether it has one.
     ///
-    /// It has none if `is_on` is false, or if it is unknown which operations a Cancel can take back.
+    /// It has none if `is_on` is false, or if it is unknown which operations a Cancel can take
+    /// back.
     pub(crate) fn come_to(
         &mut self,
         alloc: Global,

@@ -13,7 +13,7 @@ use std::marker::Model;
 /// A list that has one operation in front of an earlier list. `state` is the number of the state
 /// before the operation's Begin.
 #[derive(Clone, Copy, Drop)]
-pub(crate) struct Entry {
+pub(crate) struct OpeningEntry {
     op: u64,
     state: usize,
     /// The number of the earlier list.
@@ -24,7 +24,7 @@ pub(crate) struct Entry {
 ///
 /// `latest` maps a hash to the newest list that has it.
 pub(crate) struct Openings {
-    entries: Vec<Entry>,
+    entries: Vec<OpeningEntry>,
     latest: IndexMap<u64, usize>,
 }
 
@@ -121,7 +121,8 @@ impl Openings {
         self.entries.reserve(1)?;
         let number = self.entries.len() + 1;
         learn(&mut self.latest, digest, number)?;
-        self.entries.push_reserved(Entry { op, state, below });
+        self.entries
+            .push_reserved(OpeningEntry { op, state, below });
         Ok(number)
     }
 
@@ -190,7 +191,7 @@ impl Openings {
 
     /// Returns the entry that added list `number`. Returns `None` for list 0, which is empty, and
     /// for a number that no list has.
-    fn entry(&self, number: usize) -> Option<&Entry>
+    fn entry(&self, number: usize) -> Option<&OpeningEntry>
         ensures some { IfSome result (λ entry. IsEntryOf self.now number entry.now) }
         ensures none { IfNone result ((os : List NumberedOpening)
             → slice_get self.now number ≡ Some os → os ≡ []) }

@@ -40,8 +40,8 @@ const UNKNOWN: Stop = Stop {
 /// The numbers of the place where a walk is, and of each place before it, from the beginning of the
 /// scripts.
 ///
-/// At the beginning it may be unknown which operations a Cancel can take back. A state has no number
-/// until `number_state` gives it one.
+/// At the beginning it may be unknown which operations a Cancel can take back. A state has no
+/// number until `number_state` gives it one.
 pub struct Stops {
     codes: Codes,
     openings: Openings,
@@ -159,8 +159,8 @@ impl Stops {
         self.codes.size()
     }
 
-    /// Appends the number of the list of cancellable operations. Returns whether it is known and fits
-    /// 32 bits; if not, appends nothing.
+    /// Appends the number of the list of cancellable operations. Returns whether it is known and
+    /// fits 32 bits; if not, appends nothing.
     pub fn push_openings(&self, numbers: &mut Vec<u32>) -> Result<bool, AllocError>
         ensures { IfOk result (λ has. has ≡ true → (openings : ℕ)
             × (numbers.new.items ≡ numbers.old.items ++ openings ∷ [])

@@ -1,4 +1,4 @@
-//! Whatever replies to lines.
+//! What replies to lines.
 ghost use Rattle.std.specs.Prelude.{◌≡◌, ◌<◌, List, ℕ, OnErr, OnOk, length};
 ghost use Rattle.hp_streams.specs.Talks.{RepliesTo, line_limit};
 

@@ -1,4 +1,4 @@
-//! What the program reads from and writes to.
+//! Sources and sinks of bytes, and a reader or writer of std as one.
 
 ghost use Rattle.std.specs.Prelude.{◌≡◌, ◌<◌, ◌+◌, ◌-◌, ◌^◌, List, ℕ, Option, OnOk, OnErr};
 ghost use Rattle.std.specs.Io.{ReadsAtMost};

@@ -1,4 +1,4 @@
-//! Talks until the input ends.
+//! A talk: reads lines and writes a reply to each, until it ends.
 ghost use Rattle.std.specs.Prelude.{◌≡◌, ◌≢◌, ◌<◌, ◌-◌, ◌^◌, List, ℕ, [], IfNone, IfOk, OnErr, Some, length};
 ghost use Rattle.hp_streams.specs.Ends.{BlockHeard, HearsMore, IsReadCalm, IsTalk, IsWriteCalm, LastHeard};
 ghost use Rattle.hp_streams.specs.Talks.{Holds, IsWhole, desk, nothing_held};

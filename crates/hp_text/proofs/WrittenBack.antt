@@ -6,7 +6,7 @@ use Rattle.hp_units.specs.Texts.{auto_text}
 use Rattle.hp_units.specs.declared.events.Event.TheVariants.{SetAuto}
 use Rattle.hp_requests.specs.Files.{file_at}
 use Rattle.hp_text.specs.Names.{Auto, OfflineAuto, OnlineAuto, KernelAuto, MovableAuto, ControlFault}
-use Rattle.hp_text.specs.Reads.{file_text, line, text_of}
+use Rattle.hp_text.specs.ControlFiles.{file_text, line, text_of}
 use Rattle.hp_requests.specs.Writes.{auto_of, request_of, request_to}
 use Rattle.hp_requests.specs.declared.writes.Request.TheVariants.{Event}
 

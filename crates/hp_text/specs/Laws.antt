@@ -1,9 +1,9 @@
--- A law of reading and writing, in plain terms.
+-- The law that what `auto_online_blocks` shows can be written back.
 use Rattle.std.specs.Prelude.{◌≡◌, ℕ, List, codes, Ok}
 use Rattle.hp_units.specs.LayoutParts.{LayoutParts}
 use Rattle.hp_units.specs.Memory.{Memory}
 use Rattle.hp_units.specs.declared.events.Event.TheVariants.{SetAuto}
-use Rattle.hp_text.specs.Reads.{file_text}
+use Rattle.hp_text.specs.ControlFiles.{file_text}
 use Rattle.hp_requests.specs.Writes.{request_of}
 use Rattle.hp_requests.specs.declared.writes.Request.TheVariants.{Event}
 

@@ -1,7 +1,7 @@
 pub mod Answers
 pub mod Entries
 pub mod Escapes
-pub mod Files
+pub mod FileFaults
 pub mod Layouts
 pub mod Lines
 pub mod Plans
@@ -11,5 +11,5 @@ pub mod Spelling
 pub mod State
 pub mod Laws
 pub mod Names
-pub mod Reads
+pub mod ControlFiles
 pub mod Zones

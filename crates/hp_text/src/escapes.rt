@@ -73,13 +73,13 @@ fn write_character(out: &mut String, brackets: Brackets, c: char) -> Result<(), 
         '\n' => out.push_str("\\n"),
         '\r' => out.push_str("\\r"),
         '\t' => out.push_str("\\t"),
-        _ if is_hidden(c) || (are_escaped(brackets) && is_bracket(c)) => write_numbered(out, c),
+        _ if is_hidden(c) || (are_escaped(brackets) && is_bracket(c)) => write_escape(out, c),
         _ => out.push(c),
     }
 }
 
 /// Writes a character as a `\u` escape.
-fn write_numbered(out: &mut String, c: char) -> Result<(), AllocError>
+fn write_escape(out: &mut String, c: char) -> Result<(), AllocError>
     ensures { OnOk result (string_bytes out.new ≡ string_bytes out.old ++ numbered c) }
 {
     let code = c as u32;

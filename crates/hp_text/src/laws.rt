@@ -1,4 +1,4 @@
-//! A law of reading and writing, in plain terms.
+//! The law that what `auto_online_blocks` shows can be written back.
 ghost use Rattle.hp_text.specs.Laws.{AutoIsWrittenBack};
 
 /// Writing the text of `auto_online_blocks` back to the file asks for the policy that it already

@@ -22,13 +22,13 @@ pub(crate) fn write_layout(out: &mut String, layout: &Layout) -> Result<(), Allo
 fn write_sizes(out: &mut String, layout: &Layout) -> Result<(), AllocError>
     ensures { OnOk result (string_bytes out.new ≡ string_bytes out.old ++ sizes_text layout.now) }
 {
-    write_frames(out, layout.order(), layout.pageblocks())?;
-    write_counts(out, layout.blocks(), layout.cpus())?;
+    write_frame_keys(out, layout.order(), layout.pageblocks())?;
+    write_block_keys(out, layout.blocks(), layout.cpus())?;
     write_marks(out, layout.batch(), layout.high())
 }
 
 #[tactic(auto, unfolding(crate::specs::Layouts::frames_text))]
-fn write_frames(out: &mut String, order: u32, pageblocks: u32) -> Result<(), AllocError>
+fn write_frame_keys(out: &mut String, order: u32, pageblocks: u32) -> Result<(), AllocError>
     ensures { OnOk result
         (string_bytes out.new ≡ string_bytes out.old ++ frames_text order pageblocks) }
 {
@@ -36,7 +36,7 @@ fn write_frames(out: &mut String, order: u32, pageblocks: u32) -> Result<(), All
 }
 
 #[tactic(auto, unfolding(crate::specs::Layouts::counts_text))]
-fn write_counts(out: &mut String, blocks: u32, cpus: u32) -> Result<(), AllocError>
+fn write_block_keys(out: &mut String, blocks: u32, cpus: u32) -> Result<(), AllocError>
     ensures { OnOk result (string_bytes out.new ≡ string_bytes out.old ++ counts_text blocks cpus) }
 {
     write!(out, ", \"blocks\": {blocks}, \"cpus\": {cpus}")
@@ -54,12 +54,12 @@ fn write_marks(out: &mut String, batch: u32, high: u32) -> Result<(), AllocError
 fn write_limits(out: &mut String, layout: &Layout) -> Result<(), AllocError>
     ensures { OnOk result (string_bytes out.new ≡ string_bytes out.old ++ limits_text layout.now) }
 {
-    write_pages(out, layout.owners(), layout.pages())?;
+    write_page_keys(out, layout.owners(), layout.pages())?;
     write_rest(out, layout.words(), layout.history())
 }
 
 #[tactic(auto, unfolding(crate::specs::Layouts::pages_text))]
-fn write_pages(out: &mut String, owners: u32, pages: u32) -> Result<(), AllocError>
+fn write_page_keys(out: &mut String, owners: u32, pages: u32) -> Result<(), AllocError>
     ensures { OnOk result (string_bytes out.new ≡ string_bytes out.old ++ pages_text owners pages) }
 {
     write!(out, ",\n\"owners\": {owners}, \"pages\": {pages}")

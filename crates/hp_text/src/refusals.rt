@@ -20,7 +20,7 @@ pub(crate) fn write_refused(out: &mut String, refusal: Refusal) -> Result<(), Al
 pub(crate) fn write_refusal(out: &mut String, refusal: Refusal) -> Result<(), AllocError>
     ensures { OnOk result (string_bytes out.new ≡ string_bytes out.old ++ refusal_text refusal) }
 {
-    let (name, number) = name_of(refusal);
+    let (name, number) = refusal_name(refusal);
     out.push_str(name)?;
     match number {
         Some(number) => write_number(out, u64::from(number)),
@@ -29,7 +29,7 @@ pub(crate) fn write_refusal(out: &mut String, refusal: Refusal) -> Result<(), Al
 }
 
 /// Returns the name of a refusal, and its number if it has one.
-fn name_of(refusal: Refusal) -> (&'static str, Option<u32>)
+fn refusal_name(refusal: Refusal) -> (&'static str, Option<u32>)
     ensures { refusal_text refusal ≡ result.0.now ++ decimal_of result.1 }
 {
     match refusal {

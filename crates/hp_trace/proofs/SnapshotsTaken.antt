@@ -1,5 +1,5 @@
 -- What is looked at of a machine's memory for a snapshot.
-use Rattle.std.proofs.Common.{◌≡◌, ℕ, zero, suc, ◌+◌, ◌<◌, ◌≤◌, List, [], ◌∷◌, ◌++◌, map, take, slice_get, Option, Some, None, refl, ap, ◌∙◌, add-one, arith}
+use Rattle.std.proofs.Common.{◌≡◌, ℕ, zero, suc, ◌+◌, ◌<◌, ◌≤◌, List, [], ◌∷◌, ◌++◌, map, take, slice_get, Option, None, refl, ap, ◌∙◌, add-one, arith}
 use Rattle.std.specs.List.{range_with_len}
 use Rattle.std.proofs.lemmas.List.{take_all}
 use Rattle.std.proofs.lemmas.List.FromFn.{map-range_with_len_more}
@@ -10,7 +10,6 @@ use Rattle.hp_units.specs.Pages.{page_from}
 use Rattle.hp_units.specs.Placement.{IsWellPlaced}
 use Rattle.hp_pages.specs.Pages.{PagesValue}
 use Rattle.hp_pages.specs.Places.{holders}
-use Rattle.hp_laws.proofs.Lists.{take_next}
 use Rattle.hp_tape.specs.Deltas.{page_frames_of}
 use Rattle.hp_judge.specs.declared.holders.FrameHolder.{FrameHolder}
 use Rattle.hp_judge.specs.Snapshots.{holder_by, holder_of}
@@ -48,10 +47,6 @@ take_end [] zero at = refl
 take_end [] (suc n) at = refl
 take_end (y ∷ ys) zero at = cc
 take_end (y ∷ ys) (suc n) at = ap (λ zs. y ∷ zs) (take_end ys n at)
-
-pub take_one : {X : Type 0} (xs : List X) (n : ℕ) (x : X) → slice_get xs n ≡ Some x
-    → take (n + 1) xs ≡ take n xs ++ x ∷ []
-take_one {X} xs n x at = ap (λ (k : ℕ). take k xs) (add-one n) ∙ take_next xs n x at
 
 pub take_none : {X : Type 0} (xs : List X) (n : ℕ) → slice_get xs n ≡ None → take (n + 1) xs ≡ take n xs
 take_none {X} xs n at = ap (λ (k : ℕ). take k xs) (add-one n) ∙ take_end xs n at

@@ -9,7 +9,7 @@ use Rattle.hp_machine.specs.Machine.{IsCalled, MachineValue, is_full, sealed}
 use Rattle.hp_machine.specs.MachinePorts.{AreCalls}
 use Rattle.hp_scenario.specs.Asked as asks
 use Rattle.hp_text.specs.Answers.{sealed_line, unrecorded_line}
-use Rattle.hp_text.specs.Files.{write_fault_line}
+use Rattle.hp_text.specs.FileFaults.{write_fault_line}
 use Rattle.hp_trace.specs.Calls.{MakesEvent, MakesSeal, MakesWork, answer_text, moved_of}
 use Rattle.hp_trace.specs.Rows.{Adds, AreDrawn, DrawsIf, RowsValue, drawing, noted}
 

@@ -12,12 +12,12 @@ use Rattle.hp_units.specs.declared.replies.Receipt.{Receipt}
 use Rattle.hp_units.specs.declared.replies.Reply.{Reply}
 use Rattle.hp_units.specs.declared.replies.Reply.TheVariants.{Moved}
 use Rattle.hp_requests.specs.declared.fault.ControlFault.{ControlFault}
-use Rattle.hp_text.specs.Reads.{file_text}
+use Rattle.hp_text.specs.ControlFiles.{file_text}
 use Rattle.hp_machine.specs.Machine.{MachineValue, IsCalled, is_full, sealed}
 use Rattle.hp_scenario.specs.Asked as asks
 use Rattle.hp_map.specs.declared.row_picture.Move.{Move}
 use Rattle.hp_text.specs.Answers.{sealed_line, unrecorded_line}
-use Rattle.hp_text.specs.Files.{read_fault_line, write_fault_line}
+use Rattle.hp_text.specs.FileFaults.{read_fault_line, write_fault_line}
 use Rattle.hp_text.specs.Plans.{plan_line}
 use Rattle.hp_text.specs.Spelling.{event_text}
 use Rattle.hp_trace.specs.declared.calls.Remark.{Remark}

@@ -1,7 +1,7 @@
 //! Does what a line asks for, and adds the line's rows to the trace.
 ghost use Rattle.std.specs.Prelude.{◌≡◌, ◌++◌, OnOk, string_bytes};
 ghost use Rattle.hp_scenario.specs.Asked.{asked_by};
-ghost use Rattle.hp_text.specs.Reads.{file_text};
+ghost use Rattle.hp_text.specs.ControlFiles.{file_text};
 ghost use Rattle.hp_trace.specs.Calls.{MakesEvent, MakesSeal, MakesWork, file_rows, remark_text};
 ghost use Rattle.hp_trace.specs.Rows.{Adds, AreDrawn, noted};
 

@@ -9,17 +9,17 @@
 //! Read `numbers` and specs/Memory and specs/Step first, then specs/History and specs/Placement.
 #![tactic(auto)]
 
+pub mod displays;
 pub mod events;
 pub mod layouts;
 pub mod marks;
-pub mod number_texts;
+pub mod number_displays;
 pub mod number_words;
 pub mod numbers;
 pub mod plans;
 pub mod replies;
 pub mod rows;
 pub mod text;
-pub mod texts;
 
 pub use events::Event;
 pub use layouts::{

@@ -9,7 +9,7 @@ ghost use Rattle.hp_tape.specs.declared.deltas.Delta.TheVariants.{Link, Unlink, 
 ghost use Rattle.hp_tape.specs.declared.deltas.ListId.TheVariants.{Area};
 
 use super::Buddy;
-use crate::classes::list_number;
+use crate::classes::area_list;
 use hp_tape::{Delta, ListId, Tape};
 use hp_units::{Class, Frame, Kind, Order, Pageblock};
 
@@ -38,7 +38,7 @@ impl Buddy {
         ensures layout { self.new.layout ≡ self.old.layout }
         ensures notes { NotesAreas self.old.layout 1 tape.old tape.new self.new.areas self.old.areas }
     {
-        self.links.push_front(list_number(class, order), frame);
+        self.links.push_front(area_list(class, order), frame);
         tape.note(link_delta(class, order, frame, None));
     }
 
@@ -53,8 +53,8 @@ impl Buddy {
         ensures layout { self.new.layout ≡ self.old.layout }
         ensures notes { NotesAreas self.old.layout 1 tape.old tape.new self.new.areas self.old.areas }
     {
-        let after = self.links.last(list_number(class, order));
-        self.links.push_back(list_number(class, order), frame);
+        let after = self.links.last(area_list(class, order));
+        self.links.push_back(area_list(class, order), frame);
         tape.note(link_delta(class, order, frame, after));
     }
 

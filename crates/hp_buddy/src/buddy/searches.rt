@@ -7,7 +7,7 @@ ghost use Rattle.hp_units.specs.LayoutParts.{IsLayout};
 ghost use Rattle.hp_units.specs.Memory.{free_list};
 
 use super::Buddy;
-use crate::classes::list_number;
+use crate::classes::area_list;
 use hp_units::{Class, Frame, Order, buddy};
 
 impl Buddy {
@@ -18,7 +18,7 @@ impl Buddy {
         ensures { result ≡ is_on frame (free_list self.now.areas class order) }
     {
         match self.links.list_of(frame) {
-            Some(list) => list == list_number(class, order),
+            Some(list) => list == area_list(class, order),
             None => false,
         }
     }

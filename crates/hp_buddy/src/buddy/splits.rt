@@ -8,7 +8,7 @@ ghost use Rattle.hp_units.specs.LayoutParts.{IsLayout};
 ghost use Rattle.hp_units.specs.Memory.{kind_of, with_kind};
 
 use super::Buddy;
-use crate::classes::{list_number, upper_half};
+use crate::classes::{area_list, upper_half};
 use hp_tape::Tape;
 use hp_units::{Class, Frame, Kind, Mobility, Order, Zone, pageblock_of};
 
@@ -35,7 +35,7 @@ impl Buddy {
         ensures notes { NotesAreas self.old.layout (order - wanted + 1) tape.old tape.new self.new.areas
             self.old.areas }
     {
-        match self.links.front(list_number(class, order)) {
+        match self.links.front(area_list(class, order)) {
             Some(frame) => {
                 self.unlink_free(class, order, frame, tape);
                 self.put_halves(rest, frame, wanted, order, tape);

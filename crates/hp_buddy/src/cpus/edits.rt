@@ -9,7 +9,7 @@ ghost use Rattle.hp_tape.specs.declared.deltas.ListId.TheVariants.{Cpu as CpuLis
 ghost use Rattle.hp_buddy.specs.Cpus.{frames_of, list_of, places_in, with_list_of};
 
 use super::Cpus;
-use crate::pools::list_number;
+use crate::pools::cpu_list;
 use hp_tape::{Delta, ListId, Tape};
 use hp_units::{Cpu, Frame, Pool};
 
@@ -41,7 +41,7 @@ impl Cpus {
             → NotesFree self.old.layout 1 tape.old tape.new (frames_of areas self.new)
             (frames_of areas self.old) }
     {
-        self.links.push_front(list_number(cpu, pool), frame);
+        self.links.push_front(cpu_list(cpu, pool), frame);
         tape.note(link_delta(cpu, pool, frame, None));
     }
 
@@ -57,8 +57,8 @@ impl Cpus {
             → NotesFree self.old.layout 1 tape.old tape.new (frames_of areas self.new)
             (frames_of areas self.old) }
     {
-        let after = self.links.last(list_number(cpu, pool));
-        self.links.push_back(list_number(cpu, pool), frame);
+        let after = self.links.last(cpu_list(cpu, pool));
+        self.links.push_back(cpu_list(cpu, pool), frame);
         tape.note(link_delta(cpu, pool, frame, after));
     }
 
@@ -76,7 +76,7 @@ impl Cpus {
             → NotesFree self.old.layout 1 tape.old tape.new (frames_of areas self.new)
             (frames_of areas self.old) }
     {
-        match self.links.front(list_number(cpu, pool)) {
+        match self.links.front(cpu_list(cpu, pool)) {
             Some(frame) => {
                 self.unlink(cpu, pool, frame, tape);
                 Some(frame)
@@ -99,7 +99,7 @@ impl Cpus {
             → NotesFree self.old.layout 1 tape.old tape.new (frames_of areas self.new)
             (frames_of areas self.old) }
     {
-        match self.links.last(list_number(cpu, pool)) {
+        match self.links.last(cpu_list(cpu, pool)) {
             Some(frame) => {
                 self.unlink(cpu, pool, frame, tape);
                 Some(frame)

@@ -38,5 +38,5 @@ returns-clause-ok g c =
     let scripts = c.in_ok-scripts.scripts.items in
     IfOk-weaker c.run_scripts.result _ _ (λ worked h. run_is c.args.input.now s scripts worked.ends.items
     worked.closed.volumes.items worked.closed.machine worked.closed.records c.in_ok-scenario.ensures
-    c.in_ok-scripts.ensures.scripts c.in_ok-scripts.ensures.count (rw booted at h))
-    c.run_scripts.ensures.ok
+    c.in_ok-scripts.ensures.scripts c.in_ok-scripts.ensures.count h)
+    (rw booted at c.run_scripts.ensures.ok)

@@ -7,7 +7,7 @@ use Rattle.hp_explore.specs.PathKeys.{ArePathKeys}
 use Rattle.hp_explore.specs.Searches.{HasTurned, IsOn, IsTrying, turns_at}
 use Rattle.hp_explore.specs.Settings.{setting}
 use Rattle.hp_explore.specs.Withins.{aim_within}
-use Rattle.hp_explore.specs.declared.searching.Turn.{Turn}
+use Rattle.hp_explore.specs.declared.searching.SearchTurn.{SearchTurn}
 use Rattle.hp_explore.proofs.LookedUps.{asked}
 use Rattle.hp_explore.proofs.PathKeysKept.{keys_none}
 use Rattle.hp_explore.proofs.SearchTurns.{started}
@@ -44,7 +44,7 @@ turns-preserved-in-On g c =
     (λ p. (p.setting ≡ h) × (aim.wanted.now ≡ lines) × (aim.budget ≡ None)
     × ArePathKeys h (aim_within h lines None) p.news c.turn.new.places.keys)
     v.path.setting (turns_at c.args.seed v.path v.next) c.turn.new.self =
-    (subst (λ (t : Turn). HasTurned (aim_within v.path.setting aim.wanted.now aim.budget) c.args.seed
+    (subst (λ (t : SearchTurn). HasTurned (aim_within v.path.setting aim.wanted.now aim.budget) c.args.seed
     (λ p. (p.setting ≡ h) × (aim.wanted.now ≡ lines) × (aim.budget ≡ None)
     × ArePathKeys h (aim_within h lines None) p.news c.turn.new.places.keys)
     v.path.setting (turns_at c.args.seed v.path v.next) c.turn.new.self t) c.in-On.is
@@ -67,7 +67,7 @@ turns-preserved g c =
     (λ p. (p.setting ≡ h) × (aim.wanted.now ≡ lines) × (aim.budget ≡ None)
     × ArePathKeys h (aim_within h lines None) p.news c.turn.new.places.keys)
     v.path.setting (turns_at c.args.seed v.path v.next) c.turn.new.self =
-    (subst (λ (t : Turn). HasTurned (aim_within v.path.setting aim.wanted.now aim.budget) c.args.seed
+    (subst (λ (t : SearchTurn). HasTurned (aim_within v.path.setting aim.wanted.now aim.budget) c.args.seed
     (λ p. (p.setting ≡ h) × (aim.wanted.now ≡ lines) × (aim.budget ≡ None)
     × ArePathKeys h (aim_within h lines None) p.news c.turn.new.places.keys)
     v.path.setting (turns_at c.args.seed v.path v.next) c.turn.new.self t) c.in-New.is
@@ -89,7 +89,7 @@ returns-in-Over g c =
     let kept = c.turns.invariant.kept in
     λ told. asked (λ x a. IsDone x a []) v.path.setting h aim.wanted.now lines aim.budget kept.0
     (c.in_ok-turn.ensures.becomes.0 ∙ kept.1) (c.in_ok-turn.ensures.becomes.1 ∙ kept.2)
-    (subst (λ (t : Turn). HasTurned (aim_within v.path.setting aim.wanted.now aim.budget) c.args.seed
+    (subst (λ (t : SearchTurn). HasTurned (aim_within v.path.setting aim.wanted.now aim.budget) c.args.seed
     (λ p. (p.setting ≡ h) × (aim.wanted.now ≡ lines) × (aim.budget ≡ None)
     × ArePathKeys h (aim_within h lines None) p.news c.turn.new.places.keys)
     v.path.setting (turns_at c.args.seed v.path v.next) c.turn.new.self t) c.in-Over.is

@@ -5,7 +5,7 @@ use Rattle.hp_explore.specs.Aims.{IsFirstSought}
 use Rattle.hp_explore.specs.Paths.{PathValue}
 use Rattle.hp_explore.specs.Searches.{HasTurned, IsOn, turns_at}
 use Rattle.hp_explore.specs.Settings.{setting}
-use Rattle.hp_explore.specs.declared.searching.Turn.{Turn}
+use Rattle.hp_explore.specs.declared.searching.SearchTurn.{SearchTurn}
 use Rattle.hp_explore.proofs.FirstSought.{none_found}
 use Rattle.hp_explore.proofs.SearchTurns.{started}
 use Rattle.hp_explore.proofs.searching.first_sought.Goals as goal
@@ -28,7 +28,7 @@ turns-preserved-in-On g c =
     let at = setting c.args.machine.now c.args.scripts.now in
     let on : IsOn (g.A.Aim.shows c.turn.new.aim at) 0 (λ p. Unit {0}) at
     (turns_at 0 c.turns.search.path c.turns.search.next) c.turn.new.self =
-    subst (λ (t : Turn). HasTurned (g.A.Aim.shows c.turn.new.aim at) 0 (λ p. Unit {0}) at
+    subst (λ (t : SearchTurn). HasTurned (g.A.Aim.shows c.turn.new.aim at) 0 (λ p. Unit {0}) at
     (turns_at 0 c.turns.search.path c.turns.search.next) c.turn.new.self t) c.in-On.is
     (subst (λ (h : Setting). HasTurned (g.A.Aim.shows c.turn.new.aim h) 0 (λ p. Unit {0}) h
     (turns_at 0 c.turns.search.path c.turns.search.next) c.turn.new.self c.in_ok-turn.field-0)
@@ -48,7 +48,7 @@ turns-preserved g c =
     let at = setting c.args.machine.now c.args.scripts.now in
     let on : IsOn (g.A.Aim.shows c.turn.new.aim at) 0 (λ p. Unit {0}) at
     (turns_at 0 c.turns.search.path c.turns.search.next) c.turn.new.self =
-    subst (λ (t : Turn). HasTurned (g.A.Aim.shows c.turn.new.aim at) 0 (λ p. Unit {0}) at
+    subst (λ (t : SearchTurn). HasTurned (g.A.Aim.shows c.turn.new.aim at) 0 (λ p. Unit {0}) at
     (turns_at 0 c.turns.search.path c.turns.search.next) c.turn.new.self t) c.in-New.is
     (subst (λ (h : Setting). HasTurned (g.A.Aim.shows c.turn.new.aim h) 0 (λ p. Unit {0}) h
     (turns_at 0 c.turns.search.path c.turns.search.next) c.turn.new.self c.in_ok-turn.field-0)
@@ -96,7 +96,7 @@ returns-in-Found-clause-ok g c =
     let at = setting c.args.machine.now c.args.scripts.now in
     subst (λ (s : List ℕ). IsFirstSought at (g.A.Aim.shows c.turn.new.aim at) (Some s))
     (sym c.into_schedule.ensures)
-    ((subst (λ (t : Turn). HasTurned (g.A.Aim.shows c.turn.new.aim at) 0 (λ p. Unit {0}) at
+    ((subst (λ (t : SearchTurn). HasTurned (g.A.Aim.shows c.turn.new.aim at) 0 (λ p. Unit {0}) at
     (turns_at 0 c.turns.search.path c.turns.search.next) c.turn.new.self t) c.in-Found.is
     (subst (λ (h : Setting). HasTurned (g.A.Aim.shows c.turn.new.aim h) 0 (λ p. Unit {0}) h
     (turns_at 0 c.turns.search.path c.turns.search.next) c.turn.new.self c.in_ok-turn.field-0)
@@ -106,7 +106,7 @@ pub returns-in-Over-clause-ok : goal.returns-in-Over-clause-ok
 returns-in-Over-clause-ok g c =
     let at = setting c.args.machine.now c.args.scripts.now in
     none_found at (g.A.Aim.shows c.turn.new.aim at)
-    (subst (λ (t : Turn). HasTurned (g.A.Aim.shows c.turn.new.aim at) 0 (λ p. Unit {0}) at
+    (subst (λ (t : SearchTurn). HasTurned (g.A.Aim.shows c.turn.new.aim at) 0 (λ p. Unit {0}) at
     (turns_at 0 c.turns.search.path c.turns.search.next) c.turn.new.self t) c.in-Over.is
     (subst (λ (h : Setting). HasTurned (g.A.Aim.shows c.turn.new.aim h) 0 (λ p. Unit {0}) h
     (turns_at 0 c.turns.search.path c.turns.search.next) c.turn.new.self c.in_ok-turn.field-0)

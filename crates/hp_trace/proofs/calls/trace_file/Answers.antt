@@ -1,5 +1,5 @@
 use Rattle.std.proofs.Common.{◌≡◌, Err, rules}
-use Rattle.hp_text.specs.Reads.{file_text}
+use Rattle.hp_text.specs.ControlFiles.{file_text}
 use Rattle.hp_trace.proofs.calls.trace_file.Goals as goal
 
 pub returns-in-Err : goal.returns-in-Err

@@ -34,19 +34,19 @@ pub relink_after-requires-clause-after_on : goal.relink_after-requires-clause-af
 relink_after-requires-clause-after_on c =
     let b = c.self.inside in
     unlinked-after c.args.self.now b.layout b.links b.kinds.items c.args.delta.now c.in-Unlink.list
-    c.in-Area-list.class c.in-Area-list.order c.in-Unlink.frame c.list_number-number.result
+    c.in-Area-list.class c.in-Area-list.order c.in-Unlink.frame c.area_list-number.result
     c.in-Unlink.after
     (record { is = c.self.view_is; kept = c.self.invariant }) c.in-Unlink.is c.in-Area-list.is c.requires.fits
-    (rw (c.list_number-number.ensures, c.from.ensures))
+    (rw (c.area_list-number.ensures, c.from.ensures))
 
 pub returns-in-Area-list-clause-back : goal.returns-in-Area-list-clause-back
 returns-in-Area-list-clause-back c =
     let b = c.self.inside in
     unlink-undone c.args.self.now b.layout b.links c.relink_after.new.self b.kinds.items c.args.delta.now
-    c.in-Unlink.list c.in-Area-list.class c.in-Area-list.order c.in-Unlink.frame c.list_number-number.result
+    c.in-Unlink.list c.in-Area-list.class c.in-Area-list.order c.in-Unlink.frame c.area_list-number.result
     c.in-Unlink.after
     (record { is = c.self.view_is; kept = c.self.invariant }) c.in-Unlink.is c.in-Area-list.is
-    (rw (c.list_number-number.ensures, c.from.ensures)) c.relink_after.ensures
+    (rw (c.area_list-number.ensures, c.from.ensures)) c.relink_after.ensures
 
 pub invariant_of-self : goal.invariant_of-self
 invariant_of-self c = kept-off _ c.self.invariant c.unlink.ensures.links

@@ -10,6 +10,6 @@ first-at (x ∷ xs) = refl
 
 pub returns : goal.returns
 returns c =
-    rw (c.front.ensures, c.list_number.ensures)
+    rw (c.front.ensures, c.area_list.ensures)
     (rw (first-at (list_at c.self.inside.links (5 * c.args.order + class_index c.args.class)))
     (ap (λ (v : BuddyValue). slice_get (free_list v.areas c.args.class c.args.order) 0) c.self.view_is))

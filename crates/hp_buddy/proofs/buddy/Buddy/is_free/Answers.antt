@@ -7,9 +7,9 @@ returns-in-Some c =
     let b = c.self.inside in
     c.eq.ensures
     ∙ seen-is_free c.args.self.now b.layout b.links b.kinds.items c.args.class c.args.order c.args.frame
-    c.in-Some.list c.list_number.result
+    c.in-Some.list c.area_list.result
     (record { is = c.self.view_is; kept = c.self.invariant }) c.in-Some.ensures.listed c.in-Some.ensures.apart
-    c.list_number.ensures
+    c.area_list.ensures
 
 pub returns-in-None : goal.returns-in-None
 returns-in-None c =

@@ -5,5 +5,5 @@ use Rattle.hp_buddy.proofs.buddy.Buddy.len.Goals as goal
 
 pub returns : goal.returns
 returns c =
-    rw (c.len.ensures, c.list_number.ensures)
+    rw (c.len.ensures, c.area_list.ensures)
     (ap (λ (v : BuddyValue). length (free_list v.areas c.args.class c.args.order)) c.self.view_is)

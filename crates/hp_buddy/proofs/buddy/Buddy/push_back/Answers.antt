@@ -17,25 +17,25 @@ returns-clause-notes c =
     let seen : Seen v b.layout b.links b.kinds.items =
     record { is = c.self.view_is; kept = c.self.invariant } in
     rw (back-areas v b.layout b.links c.push_back.new.self b.kinds.items c.args.class c.args.order
-    c.args.frame c.list_number-2.result seen c.list_number-2.ensures c.push_back.ensures)
+    c.args.frame c.area_list-2.result seen c.area_list-2.ensures c.push_back.ensures)
     (seen-back v b.layout b.links b.kinds.items c.args.class c.args.order c.args.frame c.last-after.result
     c.args.tape.now c.note.new.self c.link_delta.result seen c.requires.order c.requires.frame c.requires.once
-    c.requires.unfree (c.last-after.ensures ∙ ap (λ (n : ℕ). last (list_at b.links n)) c.list_number.ensures)
+    c.requires.unfree (c.last-after.ensures ∙ ap (λ (n : ℕ). last (list_at b.links n)) c.area_list.ensures)
     c.note.ensures.room c.note.ensures.noted c.link_delta.ensures)
 
-pub list_number-requires : goal.list_number-requires
-list_number-requires c = order-small c.self.invariant c.self.view_is c.requires.order
+pub area_list-requires : goal.area_list-requires
+area_list-requires c = order-small c.self.invariant c.self.view_is c.requires.order
 
-pub list_number-requires-2 : goal.list_number-requires-2
-list_number-requires-2 c = order-small c.self.invariant c.self.view_is c.requires.order
+pub area_list-requires-2 : goal.area_list-requires-2
+area_list-requires-2 c = order-small c.self.invariant c.self.view_is c.requires.order
 
 pub last-after-requires : goal.last-after-requires
 last-after-requires c =
-    list-there c.args.class c.self.invariant c.self.view_is c.requires.order c.list_number.ensures
+    list-there c.args.class c.self.invariant c.self.view_is c.requires.order c.area_list.ensures
 
 pub push_back-requires-clause-list_in : goal.push_back-requires-clause-list_in
 push_back-requires-clause-list_in c =
-    list-there c.args.class c.self.invariant c.self.view_is c.requires.order c.list_number-2.ensures
+    list-there c.args.class c.self.invariant c.self.view_is c.requires.order c.area_list-2.ensures
 
 pub push_back-requires-clause-frame_in : goal.push_back-requires-clause-frame_in
 push_back-requires-clause-frame_in c = frame-there c.self.invariant c.self.view_is c.requires.frame
@@ -47,8 +47,8 @@ pub returns-clause-areas : goal.returns-clause-areas
 returns-clause-areas c =
     let b = c.self.inside in
     back-areas c.args.self.now b.layout b.links c.push_back.new.self b.kinds.items c.args.class c.args.order
-    c.args.frame c.list_number-2.result (record { is = c.self.view_is; kept = c.self.invariant })
-    c.list_number-2.ensures c.push_back.ensures
+    c.args.frame c.area_list-2.result (record { is = c.self.view_is; kept = c.self.invariant })
+    c.area_list-2.ensures c.push_back.ensures
 
 pub returns-clause-layout : goal.returns-clause-layout
 returns-clause-layout c = ap (λ (v : BuddyValue). v.layout) c.self.view_is

@@ -16,17 +16,17 @@ returns-clause-notes c =
     let seen : Seen v b.layout b.links b.kinds.items =
     record { is = c.self.view_is; kept = c.self.invariant } in
     rw (front-areas v b.layout b.links c.push_front.new.self b.kinds.items c.args.class c.args.order
-    c.args.frame c.list_number.result seen c.list_number.ensures c.push_front.ensures)
+    c.args.frame c.area_list.result seen c.area_list.ensures c.push_front.ensures)
     (seen-front v b.layout b.links b.kinds.items c.args.class c.args.order c.args.frame c.args.tape.now
     c.note.new.self c.link_delta.result seen c.requires.order c.requires.frame c.requires.unfree
     c.note.ensures.room c.note.ensures.noted c.link_delta.ensures)
 
-pub list_number-requires : goal.list_number-requires
-list_number-requires c = order-small c.self.invariant c.self.view_is c.requires.order
+pub area_list-requires : goal.area_list-requires
+area_list-requires c = order-small c.self.invariant c.self.view_is c.requires.order
 
 pub push_front-requires-clause-list_in : goal.push_front-requires-clause-list_in
 push_front-requires-clause-list_in c =
-    list-there c.args.class c.self.invariant c.self.view_is c.requires.order c.list_number.ensures
+    list-there c.args.class c.self.invariant c.self.view_is c.requires.order c.area_list.ensures
 
 pub push_front-requires-clause-frame_in : goal.push_front-requires-clause-frame_in
 push_front-requires-clause-frame_in c = frame-there c.self.invariant c.self.view_is c.requires.frame
@@ -38,8 +38,8 @@ pub returns-clause-areas : goal.returns-clause-areas
 returns-clause-areas c =
     let b = c.self.inside in
     front-areas c.args.self.now b.layout b.links c.push_front.new.self b.kinds.items c.args.class c.args.order
-    c.args.frame c.list_number.result (record { is = c.self.view_is; kept = c.self.invariant })
-    c.list_number.ensures c.push_front.ensures
+    c.args.frame c.area_list.result (record { is = c.self.view_is; kept = c.self.invariant })
+    c.area_list.ensures c.push_front.ensures
 
 pub returns-clause-layout : goal.returns-clause-layout
 returns-clause-layout c = ap (λ (v : BuddyValue). v.layout) c.self.view_is

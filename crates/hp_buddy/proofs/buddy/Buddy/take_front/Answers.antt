@@ -11,8 +11,8 @@ is_front : (c : In-Some) → IsFront c.in-Some.frame (free_list c.args.self.now.
 is_front c =
     let b = c.self.inside in
     seen-front_is c.args.self.now b.layout b.links b.kinds.items c.args.class c.args.order
-    c.list_number.result c.in-Some.frame (record { is = c.self.view_is; kept = c.self.invariant })
-    c.list_number.ensures c.in-Some.ensures
+    c.area_list.result c.in-Some.frame (record { is = c.self.view_is; kept = c.self.invariant })
+    c.area_list.ensures c.in-Some.ensures
 
 pub unlink_free-requires-clause-frame : goal.unlink_free-requires-clause-frame
 unlink_free-requires-clause-frame c =
@@ -51,12 +51,12 @@ returns-in-Some-clause-notes c =
     c.args.self.now.areas c.unlink_free.new.self.areas c.put_halves.new.self.areas
     c.unlink_free.ensures.layout (omega arith) c.unlink_free.ensures.notes c.put_halves.ensures.notes
 
-pub list_number-requires : goal.list_number-requires
-list_number-requires c = order-small c.self.invariant c.self.view_is c.requires.order
+pub area_list-requires : goal.area_list-requires
+area_list-requires c = order-small c.self.invariant c.self.view_is c.requires.order
 
 pub front-requires : goal.front-requires
 front-requires c =
-    list-there c.args.class c.self.invariant c.self.view_is c.requires.order c.list_number.ensures
+    list-there c.args.class c.self.invariant c.self.view_is c.requires.order c.area_list.ensures
 
 pub put_halves-requires-clause-layout : goal.put_halves-requires-clause-layout
 put_halves-requires-clause-layout c =

@@ -34,18 +34,18 @@ pub relink_after-requires-clause-after_on : goal.relink_after-requires-clause-af
 relink_after-requires-clause-after_on c =
     let b = c.self.inside in
     unlinked-after c.args.self.now b.layout b.links c.args.delta.now c.in-Unlink.list c.in-Cpu-list.cpu
-    c.in-Cpu-list.pool c.in-Unlink.frame c.list_number-number.result c.in-Unlink.after c.requires.fits.0
+    c.in-Cpu-list.pool c.in-Unlink.frame c.cpu_list-number.result c.in-Unlink.after c.requires.fits.0
     (record { is = c.self.view_is; kept = c.self.invariant }) c.in-Unlink.is c.in-Cpu-list.is
     c.requires.fits.1
-    (c.list_number-number.ensures ∙ ap (λ (n : ℕ). 3 * n + pool_index c.in-Cpu-list.pool) c.from.ensures)
+    (c.cpu_list-number.ensures ∙ ap (λ (n : ℕ). 3 * n + pool_index c.in-Cpu-list.pool) c.from.ensures)
 
 pub returns-in-Cpu-list-clause-back : goal.returns-in-Cpu-list-clause-back
 returns-in-Cpu-list-clause-back c =
     let b = c.self.inside in
     unlink-undone c.args.self.now b.layout b.links c.relink_after.new.self c.args.delta.now c.in-Unlink.list
-    c.in-Cpu-list.cpu c.in-Cpu-list.pool c.in-Unlink.frame c.list_number-number.result c.in-Unlink.after
+    c.in-Cpu-list.cpu c.in-Cpu-list.pool c.in-Unlink.frame c.cpu_list-number.result c.in-Unlink.after
     (record { is = c.self.view_is; kept = c.self.invariant }) c.in-Unlink.is c.in-Cpu-list.is
-    (c.list_number-number.ensures ∙ ap (λ (n : ℕ). 3 * n + pool_index c.in-Cpu-list.pool) c.from.ensures)
+    (c.cpu_list-number.ensures ∙ ap (λ (n : ℕ). 3 * n + pool_index c.in-Cpu-list.pool) c.from.ensures)
     c.relink_after.ensures
 
 pub invariant_of-self : goal.invariant_of-self

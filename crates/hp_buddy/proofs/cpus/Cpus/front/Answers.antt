@@ -10,6 +10,6 @@ first-at (x ∷ xs) = refl
 
 pub returns : goal.returns
 returns c =
-    rw (c.front.ensures, c.list_number.ensures)
+    rw (c.front.ensures, c.cpu_list.ensures)
     (rw (first-at (list_at c.self.inside.links (3 * c.args.cpu + pool_index c.args.pool)))
     (ap (λ (v : CpusValue). slice_get (list_of v c.args.cpu c.args.pool) 0) c.self.view_is))

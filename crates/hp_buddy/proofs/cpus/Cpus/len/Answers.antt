@@ -4,5 +4,5 @@ use Rattle.hp_buddy.proofs.cpus.Cpus.len.Goals as goal
 
 pub returns : goal.returns
 returns c =
-    rw (c.len.ensures, c.list_number.ensures)
+    rw (c.len.ensures, c.cpu_list.ensures)
     (ap (λ (v : CpusValue). length (list_of v c.args.cpu c.args.pool)) c.self.view_is)

@@ -8,8 +8,8 @@ use Rattle.hp_buddy.proofs.cpus.Cpus.pop_last.Goals.{In-Some}
 end : (c : In-Some) → IsLast c.in-Some.frame (list_of c.args.self.now c.args.cpu c.args.pool)
 end c =
     let b = c.self.inside in
-    seen-last c.args.self.now b.layout b.links c.args.cpu c.args.pool c.list_number.result c.in-Some.frame
-    (record { is = c.self.view_is; kept = c.self.invariant }) c.list_number.ensures c.in-Some.ensures
+    seen-last c.args.self.now b.layout b.links c.args.cpu c.args.pool c.cpu_list.result c.in-Some.frame
+    (record { is = c.self.view_is; kept = c.self.invariant }) c.cpu_list.ensures c.in-Some.ensures
 
 pub unlink-requires-clause-frame : goal.unlink-requires-clause-frame
 unlink-requires-clause-frame c =
@@ -29,11 +29,11 @@ returns-in-Some-clause-popped c =
 pub returns-in-None-clause-popped : goal.returns-in-None-clause-popped
 returns-in-None-clause-popped c =
     let b = c.self.inside in
-    seen-no_last c.args.self.now b.layout b.links c.args.cpu c.args.pool c.list_number.result
-    (record { is = c.self.view_is; kept = c.self.invariant }) c.list_number.ensures c.in-None.ensures
+    seen-no_last c.args.self.now b.layout b.links c.args.cpu c.args.pool c.cpu_list.result
+    (record { is = c.self.view_is; kept = c.self.invariant }) c.cpu_list.ensures c.in-None.ensures
 
-pub list_number-requires : goal.list_number-requires
-list_number-requires c = cpu-small c.self.invariant c.self.view_is c.requires.cpu
+pub cpu_list-requires : goal.cpu_list-requires
+cpu_list-requires c = cpu-small c.self.invariant c.self.view_is c.requires.cpu
 
 pub last-requires : goal.last-requires
-last-requires c = list-there c.args.pool c.self.invariant c.self.view_is c.requires.cpu c.list_number.ensures
+last-requires c = list-there c.args.pool c.self.invariant c.self.view_is c.requires.cpu c.cpu_list.ensures

@@ -14,30 +14,30 @@ pushed c =
     let v = c.args.self.now in
     let lists = lists-there c.self.invariant c.self.view_is in
     seen-back v b.layout b.links c.push_back.new.self c.args.cpu c.args.pool c.args.frame
-    c.list_number-2.result c.list_number.result c.last-after.result c.args.tape.now c.note.new.self
+    c.cpu_list-2.result c.cpu_list.result c.last-after.result c.args.tape.now c.note.new.self
     c.link_delta.result (record { is = c.self.view_is; kept = c.self.invariant })
     c.requires.cpu c.requires.frame
     (off_list_of v c.args.cpu c.args.pool c.args.frame lists c.requires.cpu c.requires.nowhere)
     (distinct_list_of v c.args.cpu c.args.pool lists c.requires.cpu c.requires.once)
-    c.list_number.ensures c.last-after.ensures c.list_number-2.ensures c.push_back.ensures c.note.ensures.room
+    c.cpu_list.ensures c.last-after.ensures c.cpu_list-2.ensures c.push_back.ensures c.note.ensures.room
     c.note.ensures.noted c.link_delta.ensures
 
 pub returns-clause-notes : goal.returns-clause-notes
 returns-clause-notes c = (pushed (goal.at.returns-clause-notes c).After-note).notes
 
-pub list_number-requires : goal.list_number-requires
-list_number-requires c = cpu-small c.self.invariant c.self.view_is c.requires.cpu
+pub cpu_list-requires : goal.cpu_list-requires
+cpu_list-requires c = cpu-small c.self.invariant c.self.view_is c.requires.cpu
 
-pub list_number-requires-2 : goal.list_number-requires-2
-list_number-requires-2 c = cpu-small c.self.invariant c.self.view_is c.requires.cpu
+pub cpu_list-requires-2 : goal.cpu_list-requires-2
+cpu_list-requires-2 c = cpu-small c.self.invariant c.self.view_is c.requires.cpu
 
 pub last-after-requires : goal.last-after-requires
 last-after-requires c =
-    list-there c.args.pool c.self.invariant c.self.view_is c.requires.cpu c.list_number.ensures
+    list-there c.args.pool c.self.invariant c.self.view_is c.requires.cpu c.cpu_list.ensures
 
 pub push_back-requires-clause-list_in : goal.push_back-requires-clause-list_in
 push_back-requires-clause-list_in c =
-    list-there c.args.pool c.self.invariant c.self.view_is c.requires.cpu c.list_number-2.ensures
+    list-there c.args.pool c.self.invariant c.self.view_is c.requires.cpu c.cpu_list-2.ensures
 
 pub push_back-requires-clause-frame_in : goal.push_back-requires-clause-frame_in
 push_back-requires-clause-frame_in c = frame-there c.self.invariant c.self.view_is c.requires.frame

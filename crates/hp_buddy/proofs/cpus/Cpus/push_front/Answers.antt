@@ -13,21 +13,21 @@ pushed c =
     let b = c.self.inside in
     let v = c.args.self.now in
     seen-front v b.layout b.links c.push_front.new.self c.args.cpu c.args.pool c.args.frame
-    c.list_number.result c.args.tape.now c.note.new.self c.link_delta.result
+    c.cpu_list.result c.args.tape.now c.note.new.self c.link_delta.result
     (record { is = c.self.view_is; kept = c.self.invariant }) c.requires.cpu c.requires.frame
     (off_list_of v c.args.cpu c.args.pool c.args.frame (lists-there c.self.invariant c.self.view_is)
     c.requires.cpu c.requires.nowhere)
-    c.list_number.ensures c.push_front.ensures c.note.ensures.room c.note.ensures.noted c.link_delta.ensures
+    c.cpu_list.ensures c.push_front.ensures c.note.ensures.room c.note.ensures.noted c.link_delta.ensures
 
 pub returns-clause-notes : goal.returns-clause-notes
 returns-clause-notes c = (pushed (goal.at.returns-clause-notes c).After-note).notes
 
-pub list_number-requires : goal.list_number-requires
-list_number-requires c = cpu-small c.self.invariant c.self.view_is c.requires.cpu
+pub cpu_list-requires : goal.cpu_list-requires
+cpu_list-requires c = cpu-small c.self.invariant c.self.view_is c.requires.cpu
 
 pub push_front-requires-clause-list_in : goal.push_front-requires-clause-list_in
 push_front-requires-clause-list_in c =
-    list-there c.args.pool c.self.invariant c.self.view_is c.requires.cpu c.list_number.ensures
+    list-there c.args.pool c.self.invariant c.self.view_is c.requires.cpu c.cpu_list.ensures
 
 pub push_front-requires-clause-frame_in : goal.push_front-requires-clause-frame_in
 push_front-requires-clause-frame_in c = frame-there c.self.invariant c.self.view_is c.requires.frame

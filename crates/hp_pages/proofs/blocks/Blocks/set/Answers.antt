@@ -4,7 +4,7 @@ use Rattle.hp_units.specs.declared.rows.Row.{Row}
 use Rattle.hp_tape.specs.RowChanges.{RowChangeValue}
 use Rattle.hp_tape.specs.declared.deltas.Delta.TheVariants.{Row as RowDelta}
 use Rattle.hp_pages.specs.Blocks.{BlocksValue}
-use Rattle.hp_pages.proofs.Notes.{change_of, notes-row}
+use Rattle.hp_pages.proofs.RowNotes.{change_of, notes-row}
 use Rattle.hp_pages.proofs.blocks.Blocks.set.Goals as goal
 
 pub returns-clause-notes : goal.returns-clause-notes

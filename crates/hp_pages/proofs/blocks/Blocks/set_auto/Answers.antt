@@ -1,4 +1,4 @@
-use Rattle.hp_pages.proofs.Notes.{notes-auto}
+use Rattle.hp_pages.proofs.RowNotes.{notes-auto}
 use Rattle.hp_pages.proofs.blocks.Blocks.set_auto.Goals as goal
 
 pub returns-clause-notes : goal.returns-clause-notes

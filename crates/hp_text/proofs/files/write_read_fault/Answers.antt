@@ -1,5 +1,0 @@
-use Rattle.std.proofs.Common.{rules}
-use Rattle.hp_text.proofs.files.write_read_fault.Goals as goal
-
-pub returns : goal.returns
-returns c = search rules

@@ -1,7 +1,0 @@
-use Rattle.std.proofs.Common.{append_assoc}
-use Rattle.hp_text.specs.Layouts.{counts_text}
-use Rattle.hp_text.proofs.layouts.write_counts.Goals as goal
-
-pub returns : goal.returns
-unfolding counts_text
-returns c = simp append_assoc c.write.ensures.bytes
