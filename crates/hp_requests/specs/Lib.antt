@@ -1,3 +1,4 @@
+pub mod Echoes
 pub mod FaultName
 pub mod Files
 pub mod Gives

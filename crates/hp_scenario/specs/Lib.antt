@@ -1,6 +1,5 @@
 pub mod Asked
 pub mod Calls
-pub mod Echoes
 pub mod Form
 pub mod Gives
 pub mod Lines

@@ -3,7 +3,6 @@
 
 mod asked;
 mod calls;
-mod echo;
 mod fault;
 mod form;
 mod laws;
@@ -24,7 +23,6 @@ mod words;
 
 pub use asked::Asked;
 pub use calls::{Calls, Next};
-pub use echo::Echo;
 pub use fault::ScenarioFault;
 pub use form::{boot_at, boots_at, has_keys, parts_with, texts_at};
 pub use laws::lines_are_spelled;

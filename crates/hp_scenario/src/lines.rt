@@ -1,7 +1,7 @@
 //! The lines of a scenario.
 ghost use Rattle.std.specs.Prelude.{◌≡◌};
 
-use crate::echo::Echo;
+use hp_requests::Echo;
 use hp_units::{Cpu, Event, Plan, Text};
 use std::marker::Model;
 use std::mem::size_of;

@@ -3,12 +3,12 @@ ghost use Rattle.std.specs.Prelude.{◌≡◌, map, IfOk, option_map};
 ghost use Rattle.hp_scenario.specs.Lines as says;
 ghost use Rattle.hp_scenario.specs.Seen.{request_seen};
 
-use crate::echo::Echo;
 use crate::lines::Work;
 use crate::numbers::{number32, number64};
 use crate::plans::plan_from;
 use crate::requests::{Access, Request};
 use crate::words::is_name;
+use hp_requests::Echo;
 use hp_units::{Block, Cpu, Event, Frame, Order, Page, Serial, Text, Zone};
 use std::alloc::{AllocError, Global};
 

@@ -1,8 +1,8 @@
 //! Runs the lines of a situation, each of which is a call that may run out of memory.
 use crate::calls::{call, plan, seal};
 use hp_machine::Machine;
-use hp_requests::{CONTROL_TURNS, Request, echo_answer, parse_write};
-use hp_scenario::{Echo, Line, Scenario, Work};
+use hp_requests::{CONTROL_TURNS, Echo, Request, echo_answer, parse_write};
+use hp_scenario::{Line, Scenario, Work};
 use hp_text::{buddyinfo, read_file, read_text};
 use hp_units::{Cpu, Event, Serial};
 use refused_values::{Case, Outcome, Trouble, expect};

@@ -1,5 +1,5 @@
 use Rattle.std.proofs.Common.{ℕ, List}
-use Rattle.hp_scenario.specs.Echoes.{EchoValue}
+use Rattle.hp_requests.specs.Echoes.{EchoValue}
 use Rattle.hp_scenario.proofs.verbs.echo_from.Goals as goal
 
 abbrev echo_of : List ℕ → List ℕ → EchoValue

@@ -2,7 +2,8 @@
 ghost use Rattle.std.specs.Prelude.{◌≡◌, IfOk};
 ghost use Rattle.hp_requests.specs.Writes.{echo_request};
 
-use hp_requests::{ControlFault, Request, echo_answer};
+use crate::fault::ControlFault;
+use crate::writes::{Request, echo_answer};
 use hp_units::Text;
 use std::alloc::{AllocError, Global};
 use std::marker::Model;
@@ -31,7 +32,7 @@ impl Drop for Echo {
 impl Model for Echo {
     ghost use Rattle.std.specs.Prelude.{◌≡◌};
     ghost use Rattle.hp_requests.specs.Writes.{echo_request};
-    ghost use Rattle.hp_scenario.specs.Echoes.{EchoValue};
+    ghost use Rattle.hp_requests.specs.Echoes.{EchoValue};
 
     ghost Value = { EchoValue };
 
