@@ -1,5 +1,5 @@
 -- What lines take of receipts, and what they leave of them.
-use Rattle.std.proofs.Common.{◌≡◌, ℕ, List, [], ◌∷◌, ◌++◌, Option, Some, None, refl, ap, sym, ◌∙◌, inl, inr}
+use Rattle.std.proofs.Common.{◌≡◌, ℕ, List, [], ◌∷◌, ◌++◌, Option, Some, None, refl, ap, inl, inr, arith}
 use Rattle.std.specs.Option.{option_map_or}
 use Rattle.std.proofs.lemmas.List.{append_assoc}
 use Rattle.std.proofs.lemmas.Option.{none-some, same_Some}
@@ -28,15 +28,9 @@ pub after_more : (cpus : ℕ) (known : Known) (line : Step) (earlier later more 
     → after_line cpus known line earlier later ≡ Some rest
     → after_line cpus known line earlier (later ++ more) ≡ Some (rest ++ more)
 after_more cpus known line earlier [] more rest is =
-    elim (cases_option (line_next cpus known line earlier)) [
-      | inl none ↦ rw (over_now cpus known line earlier more none, ← same_Some [] rest (rw none at is))
-      | inr e ↦ absurd (none-some rest (rw e.1 at is))
-    ]
+    grind (arith, cases_option, over_now, none-some, same_Some)
 after_more cpus known line earlier (r ∷ rs) more rest is =
-    elim (cases_option (line_next cpus known line earlier)) [
-      | inl none ↦ rw (none, ← same_Some (r ∷ rs) rest (rw none at is))
-      | inr e ↦ rw e.1 (after_more cpus known line (earlier ++ r ∷ []) rs more rest (rw e.1 at is))
-    ]
+    grind (arith, cases_option, none-some, same_Some, after_more cpus known line (earlier ++ r ∷ []) rs)
 
 -- what is taken, and left
 pub record Parts (taken : List Receipt → Option (List Receipt)) (receipts rest : List Receipt) : Type 0 where
@@ -81,12 +75,6 @@ first_then cpus known line lines receipts rest is =
       | inr left ↦ record { left = left.0; first = left.1; others = rw left.1 at is }
     ]
 
-pub then_all : (cpus : ℕ) (known : Known) (line : Step) (lines : List Step)
-    (receipts left rest : List Receipt)
-    → after_line cpus known line [] receipts ≡ Some left → after_lines cpus known lines left ≡ Some rest
-    → after_lines cpus known (line ∷ lines) receipts ≡ Some rest
-then_all cpus known line lines receipts left rest first others = rw first others
-
 pub lines_more : (cpus : ℕ) (known : Known) (lines : List Step) (receipts more rest : List Receipt)
     → after_lines cpus known lines receipts ≡ Some rest
     → after_lines cpus known lines (receipts ++ more) ≡ Some (rest ++ more)
@@ -94,8 +82,7 @@ lines_more cpus known [] receipts more rest is =
     ap (λ (xs : List Receipt). Some (xs ++ more)) (same_Some receipts rest is)
 lines_more cpus known (line ∷ lines) receipts more rest is =
     let parts = first_then cpus known line lines receipts rest is in
-    then_all cpus known line lines (receipts ++ more) (parts.left ++ more) (rest ++ more)
-    (after_more cpus known line [] receipts more parts.left parts.first)
+    rw (after_more cpus known line [] receipts more parts.left parts.first)
     (lines_more cpus known lines parts.left more rest parts.others)
 
 pub lines_parts : (cpus : ℕ) (known : Known) (lines : List Step) (receipts rest : List Receipt)
@@ -108,13 +95,8 @@ lines_parts cpus known (line ∷ lines) receipts rest is =
     let others = lines_parts cpus known lines parts.left rest parts.others in
     record {
       own = first.own ++ others.own;
-      whole =
-          first.whole
-          ∙ (ap (λ (xs : List Receipt). first.own ++ xs) others.whole
-          ∙ sym (append_assoc first.own others.own rest));
-      over =
-          then_all cpus known line lines (first.own ++ others.own) others.own []
-          (after_more cpus known line [] first.own others.own [] first.over) others.over;
+      whole = rw (append_assoc, ← others.whole) first.whole;
+      over = rw (after_more cpus known line [] first.own others.own [] first.over) others.over;
     }
 
 -- lines, and further ones
@@ -124,8 +106,7 @@ pub lines_then : (cpus : ℕ) (known : Known) (lines others : List Step) (receip
 lines_then cpus known [] others receipts rest is =
     ap (after_lines cpus known others) (same_Some receipts rest is)
 lines_then cpus known (line ∷ lines) others receipts rest is =
-    let parts = first_then cpus known line lines receipts rest is in
-    rw parts.first (lines_then cpus known lines others parts.left rest parts.others)
+    grind (arith, cases_option, none-some, lines_then cpus known lines)
 
 -- the first lines of such lines
 pub record Before (cpus : ℕ) (known : Known) (lines others : List Step)
@@ -143,7 +124,7 @@ lines_before cpus known (line ∷ lines) others receipts rest is =
     let later = lines_before cpus known lines others parts.left rest parts.others in
     record {
       left = later.left;
-      before = then_all cpus known line lines receipts parts.left later.left parts.first later.before;
+      before = rw parts.first later.before;
       then = later.then;
     }
 
@@ -152,5 +133,4 @@ pub all_over : (cpus : ℕ) (known : Known) (lines : List Step) (receipts rest :
     → after_lines cpus known lines receipts ≡ Some rest → next_in cpus known lines receipts ≡ None
 all_over cpus known [] receipts rest is = refl
 all_over cpus known (line ∷ lines) receipts rest is =
-    let parts = first_then cpus known line lines receipts rest is in
-    rw parts.first (all_over cpus known lines parts.left rest parts.others)
+    grind (arith, cases_option, none-some, all_over cpus known lines)

@@ -1,5 +1,5 @@
 -- Lines that work on equal results call the same.
-use Rattle.std.proofs.Common.{◌≡◌, ℕ, zero, suc, Bool, true, List, [], ◌∷◌, ◌++◌, drop, get_or, length, map, Some, slice_get, refl, ap, inl, inr, arith}
+use Rattle.std.proofs.Common.{◌≡◌, ℕ, zero, suc, Bool, true, List, [], ◌∷◌, ◌++◌, drop, get_or, length, map, Some, slice_get, refl, ap, arith}
 use Rattle.std.specs.Prelude.{flat_map}
 use Rattle.std.specs.List.{list_all}
 use Rattle.std.proofs.lemmas.Bool.{and_parts, cases_Bool, cases_lt}
@@ -11,7 +11,7 @@ use Rattle.hp_units.specs.declared.events.Event.{Event}
 use Rattle.hp_units.specs.declared.replies.Receipt.{Receipt}
 use Rattle.hp_schedules.specs.Alike.{AreMergeable, is_mergeable, is_mergeable_line, unnumbered}
 use Rattle.hp_schedules.specs.Cursors.{frames_named}
-use Rattle.hp_schedules.specs.Scripts.{Known, after_line, frames_of, known_of, later_operation, line_next, next_in, nothing_known, no_frame, once, own_operation, work_of}
+use Rattle.hp_schedules.specs.Scripts.{Known, frames_of, known_of, later_operation, line_next, next_in, no_frame, once, own_operation, work_of}
 use Rattle.hp_schedules.specs.Starts.{same_starts}
 use Rattle.hp_schedules.specs.declared.scripts.OwnWork.TheVariants.{Latest, Nth, Free}
 use Rattle.hp_schedules.specs.declared.scripts.Step.{Step}
@@ -56,11 +56,7 @@ pub next_agree : (cpus : ℕ) (a b : Known) (lines : List Step) (rs : List Recei
     → next_in cpus a lines rs ≡ next_in cpus b lines rs
 next_agree cpus a b [] rs agree = refl
 next_agree cpus a b (line ∷ lines) rs agree =
-    rw (any_known cpus a line [] rs, any_known cpus b line [] rs, line_agrees cpus a b line rs agree.0)
-    (elim (cases_option (after_line cpus nothing_known line [] rs)) [
-      | inl none ↦ rw none
-      | inr rest ↦ rw rest.1 (next_agree cpus a b lines rest.0 agree.1)
-    ])
+    grind (arith, cases_option, any_known, line_agrees, next_agree cpus a b lines)
 
 -- ---- equal numbers of the frames that lines name
 
@@ -123,8 +119,9 @@ pub script_mergeable : (scripts : List (List Step)) (cpu : ℕ) (lines : List St
     → slice_get scripts cpu ≡ Some lines → is_mergeable lines ≡ true
 script_mergeable scripts cpu lines all here = each_passes is_mergeable scripts cpu lines all here
 
-pub drop_mergeable : (k : ℕ) (lines : List Step) → is_mergeable lines ≡ true
-    → is_mergeable (drop k lines) ≡ true
-drop_mergeable zero lines merges = merges
-drop_mergeable (suc k) [] merges = refl
-drop_mergeable (suc k) (line ∷ lines) merges = drop_mergeable k lines (and_parts _ _ merges).1
+-- what each item of a list passes, each item from a place on passes
+pub drop_passes : {A : Type 0} (p : A → Bool) (k : ℕ) (xs : List A) → list_all p xs ≡ true
+    → list_all p (drop k xs) ≡ true
+drop_passes p zero xs all = all
+drop_passes p (suc k) [] all = refl
+drop_passes p (suc k) (x ∷ xs) all = drop_passes p k xs (and_parts _ _ all).1

@@ -1,6 +1,6 @@
 -- Schedules whose records are alike continue alike, and end alike.
-use Rattle.std.proofs.Common.{◌≡◌, ℕ, zero, suc, ◌+◌, ◌<◌, ◌≤◌, true, List, [], ◌∷◌, ◌++◌, length, map, filter, eqb, Option, Some, None, refl, ap, sym, subst, ◌∙◌, arith}
-use Rattle.std.specs.Prelude.{fold, option_map}
+use Rattle.std.proofs.Common.{◌≡◌, ℕ, zero, suc, ◌+◌, ◌<◌, ◌≤◌, true, List, [], ◌∷◌, ◌++◌, length, map, Option, Some, None, refl, ap, sym, subst, ◌∙◌, arith}
+use Rattle.std.specs.Prelude.{option_map}
 use Rattle.std.specs.List.{range_with_len}
 use Rattle.std.proofs.lemmas.List.{map-append}
 use Rattle.std.proofs.lemmas.Option.{slice_get_within}
@@ -9,7 +9,7 @@ use Rattle.hp_units.specs.History.{run, value_of}
 use Rattle.hp_units.specs.LayoutParts.{LayoutParts}
 use Rattle.hp_units.specs.Memory.{Memory}
 use Rattle.hp_units.specs.declared.events.Event.{Event}
-use Rattle.hp_units.specs.Receipts.{receipt_of, receipts_of}
+use Rattle.hp_units.specs.Receipts.{receipts_of}
 use Rattle.hp_units.specs.declared.replies.Receipt.{Receipt}
 use Rattle.hp_units.specs.declared.replies.Record.{Record}
 use Rattle.hp_units.specs.declared.replies.Reply.{Reply}
@@ -19,7 +19,7 @@ use Rattle.hp_schedules.specs.Alike.{AreAlike, AreJoined, AreMergeable, exchange
 use Rattle.hp_schedules.specs.Openings.{Opening, renumbered_opening}
 use Rattle.hp_schedules.specs.Continuing.{AreJoinedBy, AreSameBy, AreSameReceipts}
 use Rattle.hp_schedules.specs.Outcomes.{OutcomeValue, replies_to, told}
-use Rattle.hp_schedules.specs.Schedules.{EndsWith, Setting, next_call, outcome_after, play_one, plays}
+use Rattle.hp_schedules.specs.Schedules.{EndsWith, Setting, next_call, outcome_after, plays}
 use Rattle.hp_schedules.specs.Scripts.{known_of, next_of, own_operation}
 use Rattle.hp_schedules.specs.declared.scripts.Step.{Step}
 pub use Rattle.hp_schedules.proofs.SameCalls.{call_leaves, event_kept}
@@ -39,7 +39,7 @@ own_receipts [] [] same = refl
 own_receipts (r ∷ rs) (s ∷ ss) same =
     let first : made r.serial r.event r.reply ≡ made s.serial s.event s.reply =
     cc (own_event r.event, own_event s.event, same.0.number, same.0.event, same.0.reply) in
-    ap (λ (x : Receipt). x ∷ rs) first ∙ ap (λ (rest : List Receipt). s ∷ rest) (own_receipts rs ss same.1)
+    rw (first, own_receipts rs ss same.1)
   where
     made : ℕ → Event → Reply → Receipt
     made serial event reply = record { serial = serial; event = event; reply = reply }
@@ -110,8 +110,7 @@ own_record r s one =
 own_records : (rs ss : List Record) → AreSameRecords its_own its_own rs ss → rs ≡ ss
 own_records [] [] same = refl
 own_records (r ∷ rs) (s ∷ ss) same =
-    ap (λ (first : Record). first ∷ rs) (own_record r s same.0)
-    ∙ ap (λ (rest : List Record). s ∷ rest) (own_records rs ss same.1)
+    rw (own_record r s same.0, own_records rs ss same.1)
 own_records rs ss same = absurd same
 
 own_openings : (os : List Opening) → map (renumbered_opening its_own) os ≡ os
@@ -173,8 +172,7 @@ played_alike g rest h k end all alike is = record {
 replies_shown : (cpu : ℕ) (news : List Record)
     → replies_to cpu news ≡ map (λ (r : Receipt). told r.reply) (exchanges cpu news)
 replies_shown cpu news =
-    sym (map-map (λ (r : Receipt). told r.reply) unnumbered (receipts_of cpu news)
-    ∙ map-map (λ (r : Receipt). told r.reply) receipt_of (filter (λ (r : Record). eqb r.cpu cpu) news))
+    simp map-map
 
 replies_same : (h k : List Record) (all from n : ℕ) → from + n ≤ all
     → ((cpu : ℕ) → cpu < all → exchanges cpu h ≡ exchanges cpu k)
@@ -199,8 +197,7 @@ pub ends_alike : (g : Setting) (p q rest : List ℕ) (h k : List Record) (x : Ou
     → EndsWith g (p ++ rest) x → EndsWith g (q ++ rest) x
 ends_alike g p q rest h k x all first second alike ends = record {
   news = on.other;
-  played =
-      plays_on g q rest ∙ (ap (λ (o : Option (List Record)). fold (play_one g) o rest) second ∙ on.played);
+  played = rw (plays_on g q rest, second) on.played;
   over = λ cpu. sym (call_same g ends.news on.other cpu all on.alike) ∙ ends.over cpu;
   ends = sym (outcome_same g ends.news on.other on.alike) ∙ ends.ends;
 }

@@ -21,7 +21,7 @@ use Rattle.hp_schedules.specs.declared.scripts.Step.TheVariants.{Carry}
 use Rattle.hp_schedules.proofs.AfterLines.{after_more, all_over, first_then, lines_before, lines_more, lines_parts}
 use Rattle.hp_schedules.proofs.Asked.{at_first, lines_here}
 use Rattle.hp_schedules.proofs.Begun.{IsPush, none_before, push_cases, some_after}
-use Rattle.hp_schedules.proofs.LineAnswers.{answers_kept, answers_past, first_on, none_begun, without_is}
+use Rattle.hp_schedules.proofs.LineAnswers.{answers_kept, answers_past, none_begun, without_is}
 use Rattle.hp_laws.proofs.Options.{cases_option}
 use Rattle.hp_schedules.proofs.OneCalls.{asks_once, finished_once}
 use Rattle.hp_schedules.proofs.UpTo.{before_many, here_at, past_end, up_to}
@@ -71,7 +71,7 @@ carried_answered cpus lines receipts r c is carrying =
         → IsInFirst cpus (line ∷ drop (c.line + 1) lines) is.own c.driver
         → answers_in cpus (line ∷ drop (c.line + 1) lines) front ≡ []
     unfinished line front last own_is at = elim (cases_option (after_line cpus nothing_known line [] front)) [
-      | inl none ↦ first_on cpus line (drop (c.line + 1) lines) front none
+      | inl none ↦ rw none
       | inr rest ↦ (let none = ap length (ends (rest.0 ++ last ∷ [])
           (sym whole ∙ after_more cpus nothing_known line [] front (last ∷ []) rest.0 rest.1)) in
           absurd (omega (arith, length_push rest.0 last, none)))

@@ -22,7 +22,7 @@ use Rattle.hp_schedules.specs.declared.cursors.Cursor.{Cursor}
 use Rattle.hp_schedules.specs.declared.cursors.NextCall.{NextCall}
 use Rattle.hp_schedules.specs.declared.scripts.Step.{Step}
 use Rattle.hp_schedules.specs.declared.scripts.Step.TheVariants.{Ask, Own, Carry}
-use Rattle.hp_schedules.proofs.AfterLines.{lines_more, lines_then, then_all}
+use Rattle.hp_schedules.proofs.AfterLines.{lines_more, lines_then}
 use Rattle.hp_schedules.proofs.Lines.{goes_on, goes_on_all, over_now}
 use Rattle.hp_schedules.proofs.OneCalls.{finished_once, skips}
 
@@ -162,8 +162,8 @@ passed_one : (cpus : ℕ) (known : Known) (lines : List Step) (receipts own : Li
     → after_line cpus known line [] own ≡ Some []
     → after_lines cpus known (take (k + 1) lines) receipts ≡ Some []
 passed_one cpus known lines receipts own k line here passed over =
-    rw (take_one lines k line here) (lines_then cpus known (take k lines) (line ∷ []) receipts own passed
-    ∙ then_all cpus known line [] own [] [] over refl)
+    rw (take_one lines k line here)
+    (rw (lines_then cpus known (take k lines) (line ∷ []) receipts own passed, over))
 
 -- ---- the next line
 

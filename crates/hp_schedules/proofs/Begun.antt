@@ -1,5 +1,5 @@
 -- A driver has begun after its first receipt, and not before.
-use Rattle.std.proofs.Common.{◌≡◌, ℕ, ◌+◌, Bool, true, false, ltb, List, [], ◌∷◌, ◌++◌, Option, Some, None, refl, ap, sym, ◌∙◌, ◌⊎◌, inl, inr}
+use Rattle.std.proofs.Common.{◌≡◌, ℕ, ◌+◌, Bool, true, false, ltb, List, [], ◌∷◌, ◌++◌, Option, Some, None, refl, ap, sym, ◌∙◌, ◌⊎◌, inl, inr, arith}
 use Rattle.std.proofs.lemmas.Bool.{cases_Bool}
 use Rattle.hp_ops.specs.Stages.{IsAfter, event_in, has_begun, is_over}
 use Rattle.hp_ops.specs.declared.stages.Driver.{Driver}
@@ -48,8 +48,7 @@ turn_works : (turns op : ℕ) (rs : List Receipt) → is_work (migrate_or_cancel
 turn_works turns op rs = elim (cases_Bool (ltb (tried rs) turns)) [ inl e ↦ rw e | inr e ↦ rw e ]
 
 drain_works : (cpus turns op cpu : ℕ) (rs : List Receipt) → is_work (next_drain cpus turns op cpu rs) ≡ true
-drain_works cpus turns op cpu rs =
-    elim (cases_Bool (ltb cpu cpus)) [ inl e ↦ rw e | inr e ↦ rw e (turn_works turns op rs) ]
+drain_works cpus turns op cpu rs = grind (arith, cases_Bool, turn_works)
 
 pub next_works : (cpus turns : ℕ) (rs : List Receipt) (e : Event) (reply : Reply)
     → all_work (next_after cpus turns rs e reply) ≡ true

@@ -28,8 +28,8 @@ use Rattle.hp_schedules.proofs.AfterLines.{after_parts, lines_more}
 use Rattle.hp_schedules.proofs.AnswersAt.{of_script}
 use Rattle.hp_schedules.proofs.Asked.{own_over, plan_on}
 use Rattle.hp_schedules.proofs.Begun.{IsPush, asks_none, asks_some, push_cases}
-use Rattle.hp_schedules.proofs.CausesAt.{cause_from, cause_of_script, cause_on, same_cause}
-use Rattle.hp_schedules.proofs.LineAnswers.{answers_kept, answers_past, first_more, first_on, first_over, none_begun, receipts_later, without_is}
+use Rattle.hp_schedules.proofs.CausesAt.{cause_from, cause_of_script, same_cause}
+use Rattle.hp_schedules.proofs.LineAnswers.{answers_kept, answers_past, first_more, none_begun, receipts_later, without_is}
 use Rattle.hp_schedules.proofs.Lines.{goes_on_all}
 use Rattle.hp_schedules.proofs.RenumberedLines.{AreSameRests, rest_alike}
 use Rattle.hp_schedules.proofs.SameAnswers.{answers_same, end_alike, nameless, receipts_same, without_same}
@@ -78,7 +78,7 @@ from_over cpus line lines xs ys later others x_over y_over are = record {
   where
     one : (zs : List Receipt) → after_line cpus nothing_known line [] zs ≡ Some []
         → answers_in cpus (line ∷ lines) zs ≡ answer_of line (without zs []) ∷ []
-    one zs over = rw (first_over cpus line lines zs [] over, none_begun cpus lines)
+    one zs over = rw (over, none_begun cpus lines)
 
     more : (zs given : List Receipt) → after_line cpus nothing_known line [] zs ≡ Some []
         → answers_in cpus (line ∷ lines) (zs ++ given)
@@ -96,12 +96,11 @@ from_on : (cpus turns : ℕ) (plan : List Item) (lines : List Step) (xs ys later
     → is_over d.stage ≡ false → AreSameReceipts nameless nameless later others
     → Later cpus (Carry plan turns ∷ lines) xs ys later others
 from_on cpus turns plan lines xs ys later others d e key x_at y_at same on are = record {
-  many = rw (first_on cpus (Carry plan turns) lines xs x_on, first_on cpus (Carry plan turns) lines ys y_on);
+  many = rw (x_on, y_on);
   added = answers_in cpus (Carry plan turns ∷ lines) (xs ++ later);
-  first = rw (first_on cpus (Carry plan turns) lines xs x_on);
+  first = rw x_on;
   second =
-      rw (first_on cpus (Carry plan turns) lines ys y_on)
-      (sym (by_rests (after_line cpus nothing_known (Carry plan turns) xs later)
+      rw y_on (sym (by_rests (after_line cpus nothing_known (Carry plan turns) xs later)
       (after_line cpus nothing_known (Carry plan turns) ys others) refl refl
       (rest_alike nameless nameless cpus nothing_known nothing_known turns plan xs ys later others are
       (record {
@@ -139,8 +138,7 @@ from_on cpus turns plan lines xs ys later others d e key x_at y_at same on are =
         → answers_in cpus (Carry plan turns ∷ lines) (xs ++ later)
         ≡ answers_in cpus (Carry plan turns ∷ lines) (ys ++ others)
     by_rests None None none other rests =
-        first_on cpus (Carry plan turns) lines (xs ++ later) (x_at.1 nothing_known later ∙ none)
-        ∙ sym (first_on cpus (Carry plan turns) lines (ys ++ others) (y_at.1 nothing_known others ∙ other))
+        rw (x_at.1 nothing_known later ∙ none, y_at.1 nothing_known others ∙ other)
     by_rests (Some rest) (Some left) some other rests =
         let parts = after_parts cpus nothing_known (Carry plan turns) xs later rest some in
         let given = after_parts cpus nothing_known (Carry plan turns) ys others left other in
@@ -151,12 +149,9 @@ from_on cpus turns plan lines xs ys later others d e key x_at y_at same on are =
         rw (taken xs later parts.own rest parts.whole, taken ys others given.own left given.whole)
         (end_alike nameless nameless xs ys parts.own given.own
         (some_taken parts.own parts.over (push_cases parts.own)) own
-        (sym (cause_on cpus (Carry plan turns) lines xs x_on)
-        ∙ (same ∙ cause_on cpus (Carry plan turns) lines ys y_on))) in
-        let second = y_at.1 nothing_known others ∙ other in
-        rw (first_over cpus (Carry plan turns) lines (xs ++ later) rest (x_at.1 nothing_known later ∙ some))
-        (rw (first_over cpus (Carry plan turns) lines (ys ++ others) left second)
-        (rw (answers_same nameless nameless cpus lines rest left rests, ends)))
+        (rw (x_on, y_on) at same)) in
+        rw (x_at.1 nothing_known later ∙ some, y_at.1 nothing_known others ∙ other)
+        (rw (answers_same nameless nameless cpus lines rest left rests, ends))
     by_rests o u some other rests = absurd rests
 
 -- ---- whatever the line

@@ -1,26 +1,24 @@
 -- The last refusal of the plan in progress: its numbers, and where it is.
-use Rattle.std.proofs.Common.{◌≡◌, ℕ, ◌+◌, Bool, true, false, cond, List, [], ◌∷◌, ◌++◌, length, take, drop, get_or, Option, Some, None, Result, Ok, Err, slice_get, refl, ap, sym, ◌∙◌}
+use Rattle.std.proofs.Common.{◌≡◌, ℕ, ◌+◌, Bool, true, false, cond, List, [], ◌∷◌, ◌++◌, length, take, drop, get_or, Option, Some, None, Result, Ok, Err, slice_get, refl, ap, sym, ◌∙◌, arith}
 use Rattle.std.specs.Prelude.{OnOk, if◌then◌else◌, is_ok}
 use Rattle.std.proofs.lemmas.List.{take-append-drop}
-use Rattle.std.proofs.Math.ListN.{drop_of_length-le}
 use Rattle.hp_ops.specs.Stages.{is_over}
 use Rattle.hp_units.specs.Receipts.{receipts_of}
 use Rattle.hp_units.specs.declared.replies.Receipt.{Receipt}
 use Rattle.hp_units.specs.declared.replies.Record.{Record}
 use Rattle.hp_units.specs.declared.replies.Refusal.{Refusal}
 use Rattle.hp_units.specs.declared.replies.Refusal.TheVariants.{NoOwner, NoPage, NoWord, AlreadyMapped, NotMapped, BadOrder, NoFrame, NoSuchFrame, NotKernel, NoCpu, NoBlock, EmptyPlan, Twice, Busy, NotOnline, NotOffline, Unmovable, NoOp, NothingToMove, NotFree, Gone, BadAddress, NotAbsent}
-use Rattle.hp_schedules.specs.Causes.{IsCaused, cause_at, cause_in, cause_in_line, cause_numbers, met_at}
+use Rattle.std.proofs.lemmas.Option.{none-some}
+use Rattle.hp_laws.proofs.Options.{cases_option}
+use Rattle.hp_schedules.specs.Causes.{IsCaused, cause_at, cause_in, cause_numbers, met_at}
 use Rattle.hp_schedules.specs.Cursors.{AreCursors, IsCursor, IsInFirst}
 use Rattle.hp_schedules.specs.Schedules.{Setting}
-use Rattle.hp_schedules.specs.Scripts.{after_line, after_lines, nothing_known}
+use Rattle.hp_schedules.specs.Scripts.{after_lines, nothing_known}
 use Rattle.hp_schedules.specs.declared.cursors.Cursor.{Cursor}
 use Rattle.hp_schedules.specs.declared.scripts.Step.{Step}
 use Rattle.hp_schedules.specs.declared.scripts.Step.TheVariants.{Ask, Own, Carry}
-use Rattle.hp_schedules.proofs.AfterLines.{first_then}
-use Rattle.hp_schedules.proofs.AnswersAt.{within_shown}
 use Rattle.hp_schedules.proofs.Asked.{at_first, lines_here, own_over, plan_on}
 use Rattle.hp_schedules.proofs.Begun.{asks_none, asks_some}
-use Rattle.hp_schedules.proofs.UpTo.{past_end}
 
 -- ---- the numbers
 
@@ -56,16 +54,6 @@ extended (Err fault) old new piece numbers is same = tt
 
 -- ---- the first line
 
-pub cause_over : (cpus : ℕ) (line : Step) (lines : List Step) (receipts rest : List Receipt)
-    → after_line cpus nothing_known line [] receipts ≡ Some rest
-    → cause_in cpus (line ∷ lines) receipts ≡ cause_in cpus lines rest
-cause_over cpus line lines receipts rest is = rw is
-
-pub cause_on : (cpus : ℕ) (line : Step) (lines : List Step) (receipts : List Receipt)
-    → after_line cpus nothing_known line [] receipts ≡ None
-    → cause_in cpus (line ∷ lines) receipts ≡ cause_in_line line receipts
-cause_on cpus line lines receipts is = rw is
-
 none_met : (cpus : ℕ) (lines : List Step) → cause_in cpus lines [] ≡ None
 none_met cpus (Ask event ∷ lines) = refl
 none_met cpus lines = refl
@@ -78,16 +66,14 @@ pub cause_past : (cpus : ℕ) (lines others : List Step) (receipts rest : List R
     → cause_in cpus (lines ++ others) receipts ≡ cause_in cpus others rest
 cause_past cpus [] others receipts rest is = cc
 cause_past cpus (line ∷ lines) others receipts rest is =
-    let parts = first_then cpus nothing_known line lines receipts rest is in
-    cause_over cpus line (lines ++ others) receipts parts.left parts.first
-    ∙ cause_past cpus lines others parts.left rest parts.others
+    grind (arith, cases_option, none-some, cause_past cpus lines)
 
 pub cause_from : (cpus : ℕ) (lines : List Step) (receipts : List Receipt) (c : Cursor)
     (is : IsCursor cpus lines receipts c)
     → cause_in cpus lines receipts ≡ cause_in cpus (drop c.line lines) is.own
 cause_from cpus lines receipts c is =
-    ap (λ (ls : List Step). cause_in cpus ls receipts) (sym (take-append-drop c.line lines))
-    ∙ cause_past cpus (take c.line lines) (drop c.line lines) receipts is.own (is.passed nothing_known)
+    rw take-append-drop at
+    (cause_past cpus (take c.line lines) (drop c.line lines) receipts is.own (is.passed nothing_known))
 
 -- what its own line met
 met_in : (cpus : ℕ) (line : Step) (lines : List Step) (own : List Receipt) (c : Cursor)
@@ -99,19 +85,11 @@ met_in cpus (Carry plan turns) lines own c first = by_end (is_over c.driver.stag
     by_end : (b : Bool) → is_over c.driver.stage ≡ b
         → cause_in cpus (Carry plan turns ∷ lines) own ≡ cond b None c.driver.why
     by_end true over =
-        cause_over cpus (Carry plan turns) lines own []
-        (own_over cpus nothing_known [] (Carry plan turns) lines own c first
-        (asks_none c.driver.stage plan over))
-        ∙ none_met cpus lines
+        rw (own_over cpus nothing_known [] (Carry plan turns) lines own c first
+        (asks_none c.driver.stage plan over)) (none_met cpus lines)
     by_end false on =
         let next = asks_some c.driver.stage plan on in
         rw (plan_on cpus turns nothing_known plan lines own c.driver next.0 first next.1, first.0.why)
-
-pub cause_past_end : (cpus : ℕ) (lines : List Step) (receipts : List Receipt) (c : Cursor)
-    → slice_get lines c.line ≡ None → IsCursor cpus lines receipts c
-    → None ≡ cause_in cpus lines receipts
-cause_past_end cpus lines receipts c here is =
-    rw (cause_from cpus lines receipts c is, drop_of_length-le lines (past_end lines c.line here))
 
 pub cause_here : (cpus : ℕ) (lines : List Step) (receipts : List Receipt) (c : Cursor) (line : Step)
     → slice_get lines c.line ≡ Some line → IsCursor cpus lines receipts c
@@ -128,16 +106,12 @@ pub cause_of_script : (g : Setting) (cpu : ℕ) (news : List Record) (lines : Li
 unfolding cause_at
 cause_of_script g cpu news lines here = rw (here, cause_at)
 
-pub caused_at : (g : Setting) (cpu : ℕ) (news : List Record) (scripts : List (List Step))
-    (lines shown : List Step) (cursors : List Cursor) (cursor : Cursor) (why : Option Refusal)
-    → g.scripts ≡ scripts → slice_get scripts cpu ≡ Some lines → shown ≡ lines
-    → slice_get cursors cpu ≡ Some cursor → AreCursors g news cursors
-    → ((cpus : ℕ) (receipts : List Receipt) → IsCursor cpus shown receipts cursor
-    → why ≡ cause_in cpus shown receipts)
+pub caused_at : (g : Setting) (cpu : ℕ) (news : List Record) (lines : List Step)
+    (cursors : List Cursor) (cursor : Cursor) (why : Option Refusal)
+    → slice_get g.scripts cpu ≡ Some lines → slice_get cursors cpu ≡ Some cursor → AreCursors g news cursors
+    → ((cpus : ℕ) (receipts : List Receipt) → IsCursor cpus lines receipts cursor
+    → why ≡ cause_in cpus lines receipts)
     → IsCaused g cpu news (cause_numbers why)
-caused_at g cpu news scripts lines shown cursors cursor why scripts_is here same there all is =
-    ap cause_numbers (is g.layout.cpus (receipts_of cpu news) (all.each cpu shown cursor within there)
-    ∙ sym (cause_of_script g cpu news shown within))
-  where
-    within : slice_get g.scripts cpu ≡ Some shown
-    within = within_shown g cpu scripts lines shown scripts_is here same
+caused_at g cpu news lines cursors cursor why here there all is =
+    ap cause_numbers (is g.layout.cpus (receipts_of cpu news) (all.each cpu lines cursor here there)
+    ∙ sym (cause_of_script g cpu news lines here))

@@ -1,10 +1,10 @@
 -- Nets that no later Cancel can drop.
-use Rattle.std.proofs.Common.{◌≡◌, ℕ, suc, ◌+◌, Bool, true, false, List, [], ◌∷◌, ◌++◌, length, map, Option, Some, None, refl, ap, sym, ◌∙◌, arith, inl, inr}
+use Rattle.std.proofs.Common.{◌≡◌, ℕ, suc, ◌+◌, Bool, true, false, List, [], ◌∷◌, ◌++◌, length, map, Option, None, refl, ap, sym, ◌∙◌, arith, inl, inr}
 use Rattle.std.specs.Prelude.{◌&&◌, fold, option_map}
 use Rattle.std.proofs.lemmas.Bool.{cases_Bool}
 use Rattle.std.proofs.lemmas.List.{append-nil, append_assoc, length_push}
 use Rattle.hp_units.specs.History.{effect_of, is_refused, net_of, net_with, net_with_effect}
-use Rattle.hp_units.specs.Marks.{begins, holds_only_own_work, is_opening, is_work_of, mark_of, sole_at, tag_of}
+use Rattle.hp_units.specs.Marks.{holds_only_own_work, is_opening, is_work_of, mark_of, sole_at, tag_of}
 use Rattle.hp_units.specs.declared.events.Event.{Event}
 use Rattle.hp_units.specs.declared.events.Event.TheVariants.{Read, Begin, DrainFor, Migrate, Cancel, UndoAfter}
 use Rattle.hp_units.specs.declared.marks.Mark.TheVariants.{Other}
@@ -17,20 +17,14 @@ use Rattle.hp_laws.proofs.Options.{cases_option}
 -- a place further on
 further_on : (n m : ℕ) (o : Option ℕ) → n + 1 ≡ m
     → option_map (λ place. n + place) (option_map suc o) ≡ option_map (λ place. m + place) o
-further_on n m None is = refl
-further_on n m (Some place) is = ap Some (omega (arith, is))
+further_on n m o is = grind arith
 
 no_further : (o : Option ℕ) → o ≡ option_map (λ place. 0 + place) o
-no_further None = refl
-no_further (Some place) = ap Some (omega arith)
+no_further o = grind arith
 
 and_false : (b : Bool) → (b && false) ≡ false
 and_false true = refl
 and_false false = refl
-
--- no steps
-pub closed_none : IsClosed []
-closed_none op tail = no_further (sole_at op (map tag_of tail))
 
 -- a step that begins no operation is not where one is sole
 passed : (op : ℕ) (r : Record) (tail : List Record) → is_opening (mark_of r.event) ≡ false
@@ -56,9 +50,7 @@ sole_after : (op : ℕ) (a : List Record) (r : Record) (tail : List Record) → 
 unfolding sole_at
 sole_after op [] r tail is = grind (arith, passed, cases_option)
 sole_after op (t ∷ a) r tail is =
-    rw (not_own op a r tail is, and_false (begins op (tag_of t)), sole_after op a r tail is)
-    (elim (cases_option (sole_at op (map tag_of tail)))
-    [ inl none ↦ rw none | inr place ↦ rw place.1 (ap Some (omega arith)) ])
+    grind (arith, not_own, and_false, cases_option, sole_after op a r tail is)
 
 pub closed_all : (a : List Record) (r : Record) → mark_of r.event ≡ Other → IsClosed (a ++ r ∷ [])
 closed_all a r is op tail = rw (append_assoc a (r ∷ []) tail) (sole_after op a r tail is)
@@ -85,7 +77,7 @@ closed_more net r was so_far is =
 -- what the test says of a history
 pub closed_told : (history : List Record) → is_closed history ≡ true → IsClosed (net_of history)
 unfolding net_of
-closed_told history told = on history [] true (λ h. closed_none) told
+closed_told history told = on history [] true (λ h op tail. no_further (sole_at op (map tag_of tail))) told
   where
     on : (rest net : List Record) (was : Bool) → (was ≡ true → IsClosed net)
         → fold closed_after was rest ≡ true → IsClosed (fold net_with net rest)

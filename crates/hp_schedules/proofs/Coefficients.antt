@@ -101,11 +101,6 @@ with_exceeded count total length limit turn reached a b d e less so_far is_a is_
     let now = with_next count total turn reached a b d so_far is_a is_b is_d ns all is in
     omega (arith, turns_up ns (length - (turn + 1)) (turn + 1) length (a * b / d) m (omega arith) now also)
 
--- after all turns
-pub with_ended : (count total length turn reached : ℕ) → turn ≡ length
-    → IsMultinomialWith count total turn reached → IsMultinomialWith count total length reached
-with_ended count total length turn reached all so_far = rw (← all) so_far
-
 -- ---- all lengths
 
 -- the limit is exceeded by the first of them, and so by all
@@ -132,13 +127,7 @@ pub all_exceed : (ns : List ℕ) (count at limit : ℕ) → length ns ≤ at →
 all_exceed ns count at limit past so_far above m is =
     omega (arith, above, only_one ns count m (all_counted ns count at past so_far) is)
 
--- and their sum fits
-pub all_summed : (ns : List ℕ) (total at : ℕ) → length ns ≤ at → total ≡ sum (take at ns)
-    → total < 18446744073709551616 → (total ≡ sum ns) × (sum ns < 18446744073709551616)
-all_summed ns total at past so_far fits =
-    let all = rw (take_all at ns past) at so_far in (all, omega arith)
-
--- or those so far do not
+-- where the sum of those so far does not fit, that of all does not
 pub over_summed : (ns : List ℕ) (total at : ℕ) → at < length ns → total ≡ sum (take at ns)
     → (total + get_or ns at 0 < 18446744073709551616 → ⊥) → 18446744073709551616 ≤ sum ns
 over_summed ns total at within so_far over =

@@ -7,7 +7,7 @@ use Rattle.std.proofs.lemmas.Option.{same_Some}
 use Rattle.hp_laws.proofs.Replays.{take_one}
 use Rattle.hp_units.specs.declared.replies.Record.{Record}
 use Rattle.hp_units.specs.declared.replies.Reply.{Reply}
-use Rattle.std.proofs.lemmas.List.FromFn.{get_or-map-range_with_len, length-map-range_with_len}
+use Rattle.std.proofs.lemmas.List.FromFn.{get_or-map-range_with_len}
 use Rattle.hp_schedules.specs.Outcomes.{replies_below, replies_to, told}
 use Rattle.hp_schedules.proofs.Places.{replies_more}
 
@@ -66,11 +66,6 @@ told_here cpu replies news n k r here own within so_far is =
     rw (many, is) (told_at cpu news k r here own)
 
 -- ---- all processors
-
--- there are as many processors' replies as processors
-pub answered_length : (answers : List (List Reply)) (news : List Record) (processors : ℕ)
-    → answers ≡ replies_below processors news → length answers ≡ processors
-answered_length answers news processors is = rw (is, length-map-range_with_len)
 
 -- the list at a place is that of its processor
 pub answered_at : (answers : List (List Reply)) (news : List Record) (processors cpu : ℕ)

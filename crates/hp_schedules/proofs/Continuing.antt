@@ -46,16 +46,14 @@ records_anonymous : (p q : ℕ → ℕ) (more others : List Record) → AreSameR
     → map anonymous_record more ≡ map anonymous_record others
 records_anonymous p q [] [] same = refl
 records_anonymous p q (r ∷ more) (s ∷ others) same =
-    ap (λ (first : Record). first ∷ map anonymous_record more) (record_anonymous p q r s same.0)
-    ∙ ap (λ (rest : List Record). anonymous_record s ∷ rest) (records_anonymous p q more others same.1)
+    rw (record_anonymous p q r s same.0, records_anonymous p q more others same.1)
 records_anonymous p q more others same = absurd same
 
 events_same : (p q : ℕ → ℕ) (more others : List Record) → AreSameRecords p q more others
     → renumbered_events p more ≡ renumbered_events q others
 events_same p q [] [] same = refl
 events_same p q (r ∷ more) (s ∷ others) same =
-    ap (λ (first : Event). first ∷ renumbered_events p more) same.0.receipt.event
-    ∙ ap (λ (rest : List Event). renumbered_event q s.event ∷ rest) (events_same p q more others same.1)
+    rw (same.0.receipt.event, events_same p q more others same.1)
 events_same p q more others same = absurd same
 
 -- ---- the same continuations
@@ -152,8 +150,7 @@ continues_as g p q rest h k end all first second alike whole = record {
   more = on.more;
   others = on.others;
   end_is = on.end_is;
-  played =
-      plays_on g q rest ∙ (ap (λ (o : Option (List Record)). fold (play_one g) o rest) second ∙ on.played);
+  played = rw (plays_on g q rest, second) on.played;
   same = records_anonymous _ _ _ _ on.same;
   events = events_same _ _ _ _ on.same;
   after = on.alike;

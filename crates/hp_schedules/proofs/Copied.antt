@@ -1,5 +1,5 @@
 -- Copies of the first items of a list.
-use Rattle.std.proofs.Common.{◌≡◌, ℕ, ◌+◌, ◌<◌, List, [], ◌∷◌, ◌++◌, length, map, take, get_or, refl, ap, arith}
+use Rattle.std.proofs.Common.{◌≡◌, ℕ, ◌+◌, ◌<◌, List, [], ◌∷◌, ◌++◌, length, map, take, get_or, refl, arith}
 use Rattle.std.proofs.lemmas.List.{length-map, length-take-le, map-append}
 use Rattle.std.proofs.lemmas.Option.{slice_get_read}
 use Rattle.hp_laws.proofs.Replays.{take_one}
@@ -21,6 +21,4 @@ mapped_more {A} {B} f all old new at item less read so_far is =
 -- there is room for the value of one item more
 pub has_room : {A B : Type 0} (f : A → B) (all : List A) (so_far : List B) (at capacity : ℕ)
     → at < length all → so_far ≡ map f (take at all) → capacity ≡ length all → length so_far < capacity
-has_room {A} {B} f all so_far at capacity less is room =
-    let same = ap (λ (xs : List B). length xs) is in
-    omega (arith, same, length-map (take at all) f, length-take-le at all (omega arith))
+has_room {A} {B} f all so_far at capacity less is room = grind (arith, length-map, length-take-le)

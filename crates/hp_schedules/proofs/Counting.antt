@@ -2,16 +2,15 @@
 use Rattle.std.proofs.Common.{◌≡◌, ℕ, zero, suc, ◌+◌, List, [], ◌∷◌, ◌++◌, length, map, Some, None, slice_get, refl, sym, ◌∙◌, arith, inl, inr}
 use Rattle.std.specs.Prelude.{◌⊎◌, option_map}
 use Rattle.std.proofs.lemmas.List.{length-append, length-map}
-use Rattle.std.proofs.lemmas.Option.{slice_get-map}
+use Rattle.std.proofs.lemmas.Option.{slice_get-map, same_Some, slice_get_within}
 use Rattle.hp_laws.proofs.SealedNets.{get_append_cases, get_right}
+use Rattle.hp_laws.proofs.Lists.{get_left}
 use Rattle.hp_schedules.specs.Orders.{HasCount}
 
 -- what stands in the first of two lists stands in both, one after the other
 pub get_longer : {A : Type 0} (xs ys : List A) (k : ℕ) (x : A) → slice_get xs k ≡ Some x
     → slice_get (xs ++ ys) k ≡ Some x
-get_longer [] ys k x h = absurd cc
-get_longer (z ∷ xs) ys zero x h = h
-get_longer (z ∷ xs) ys (suc k) x h = get_longer xs ys k x h
+get_longer xs ys k x h = get_left xs ys k (slice_get_within xs k x h) ∙ h
 
 -- of two kinds that have nothing in common
 pub either_listed : (P Q : List ℕ → Type 0) (m n : ℕ) → ((s : List ℕ) → P s → Q s → ⊥) → HasCount P m
@@ -77,6 +76,18 @@ none_listed P none = (
   },
   refl,
 )
+
+-- one
+pub this_listed : (p : List ℕ) → HasCount (λ s. s ≡ p) 1
+this_listed p = (p ∷ [], record { each = each; every = λ s same. (0, rw same); once = once }, refl)
+  where
+    each : (i : ℕ) (s : List ℕ) → slice_get (p ∷ []) i ≡ Some s → s ≡ p
+    each zero s h = sym (same_Some p s h)
+    each (suc i) s h = absurd cc
+
+    once : (i j : ℕ) (s : List ℕ) → slice_get (p ∷ []) i ≡ Some s → slice_get (p ∷ []) j ≡ Some s → i ≡ j
+    once zero zero s h k = refl
+    once i j s h k = absurd cc
 
 -- as many as of the same kind in other words
 pub same_count : (P Q : List ℕ → Type 0) (n : ℕ) → ((s : List ℕ) → P s → Q s) → ((s : List ℕ) → Q s → P s)

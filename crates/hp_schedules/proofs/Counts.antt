@@ -1,9 +1,9 @@
 -- How many schedules there are of a kind, and what the ends say after one schedule more.
-use Rattle.std.proofs.Common.{◌≡◌, ℕ, zero, suc, ◌+◌, List, [], ◌∷◌, ◌++◌, length, Some, slice_get, set, refl, ap, sym, subst, ◌∙◌, arith, inl, inr}
+use Rattle.std.proofs.Common.{◌≡◌, ℕ, zero, suc, ◌+◌, List, [], ◌∷◌, length, Some, slice_get, set, refl, ap, sym, subst, ◌∙◌, arith, inl, inr}
 use Rattle.std.specs.Prelude.{◌⊎◌, sum_by}
-use Rattle.std.proofs.lemmas.List.{length_push}
+use Rattle.std.proofs.lemmas.List.{length-set, get_or-set_other}
 use Rattle.std.proofs.lemmas.List.Sums.{sum_by_push, sum_by-set}
-use Rattle.std.proofs.lemmas.Option.{slice_get_within, get_or_from_slice_get}
+use Rattle.std.proofs.lemmas.Option.{slice_get_within, get_or_from_slice_get, slice_get_read}
 use Rattle.std.proofs.lemmas.Bool.{cases_eq}
 use Rattle.hp_units.proofs.Tables.{get_set as get_set_here}
 use Rattle.hp_laws.proofs.Lists.{get_push_cases, get_end}
@@ -12,7 +12,7 @@ use Rattle.hp_schedules.specs.Ends.{AreCounted}
 use Rattle.hp_schedules.specs.Orders.{HasCount, HasMoreThan, IsBefore, IsFirst}
 use Rattle.hp_schedules.specs.Notes.{AddsEnd, AddsOne, IsNoted}
 use Rattle.hp_schedules.specs.Outcomes.{OutcomeValue}
-use Rattle.hp_schedules.proofs.Counting.{get_longer, none_listed, same_count}
+use Rattle.hp_schedules.proofs.Counting.{either_listed, get_longer, none_listed, same_count, this_listed}
 use Rattle.hp_schedules.proofs.Regions.{not_before_itself}
 
 -- ---- lists
@@ -31,42 +31,17 @@ get_set_cases (z ∷ xs) (suc k) y (suc j) x h =
 
 pub get_set_other : {A : Type 0} (xs : List A) (k : ℕ) (y : A) (j : ℕ) (x : A) → (j ≡ k → ⊥)
     → slice_get xs j ≡ Some x → slice_get (set xs k y) j ≡ Some x
-get_set_other [] k y j x differs h = absurd cc
-get_set_other (z ∷ xs) zero y zero x differs h = absurd (differs refl)
-get_set_other (z ∷ xs) zero y (suc j) x differs h = h
-get_set_other (z ∷ xs) (suc k) y zero x differs h = h
-get_set_other (z ∷ xs) (suc k) y (suc j) x differs h =
-    get_set_other xs k y j x (λ same. differs (ap suc same)) h
+get_set_other xs k y j x differs h =
+    slice_get_read (set xs k y) (length (set xs k y)) j x refl (rw length-set (slice_get_within xs j x h))
+    (sym (get_or-set_other xs k j y x differs ∙ get_or_from_slice_get xs j x x h))
 
 -- ---- how many there are of a kind
 
 -- one more, that is not of the kind
 pub one_more : (P : List ℕ → Type 0) (n : ℕ) (p : List ℕ) → (P p → ⊥) → HasCount P n
     → HasCount (λ s. P s ⊎ (s ≡ p)) (n + 1)
-one_more P n p new counted = (
-  counted.0 ++ p ∷ [],
-  record {
-    each = λ i s h.
-        elim (get_push_cases counted.0 p s i h)
-        [ inl e ↦ inl (counted.1.each i s e) | inr e ↦ inr (sym e.1) ];
-    every = λ s h.
-        elim h [
-          | inl old ↦ (let at = counted.1.every s old in (at.0, get_longer counted.0 (p ∷ []) at.0 s at.1))
-          | inr same ↦ (length counted.0, rw same (get_end counted.0 p))
-        ];
-    once = λ i j s h k.
-        elim (get_push_cases counted.0 p s i h) [
-          | inl e ↦ elim (get_push_cases counted.0 p s j k) [
-            | inl f ↦ counted.1.once i j s e f
-            | inr f ↦ absurd (new (rw f.1 (counted.1.each i s e)))
-          ]
-          | inr e ↦
-              elim (get_push_cases counted.0 p s j k)
-              [ inl f ↦ absurd (new (rw e.1 (counted.1.each j s f))) | inr f ↦ e.0 ∙ sym f.0 ]
-        ];
-  },
-  length_push counted.0 p ∙ ap (λ (k : ℕ). k + 1) counted.2,
-)
+one_more P n p new counted =
+    either_listed P (λ s. s ≡ p) n 1 (λ s h same. new (subst P same h)) counted (this_listed p)
 
 -- more than so many: those of a kind and one that is not
 pub more_than : (P Q : List ℕ → Type 0) (n : ℕ) (p : List ℕ) → (P p → ⊥) → ((s : List ℕ) → P s → Q s) → Q p
@@ -122,11 +97,9 @@ total_more : (E : List ℕ → OutcomeValue → Type 0) (p : List ℕ) (x : Outc
     → ((y : OutcomeValue) → E p y → ⊥) → HasCount (λ s. (y : OutcomeValue) × E s y) n
     → HasCount (λ s. (y : OutcomeValue) × With E p x s y) (n + 1)
 total_more E p x n new counted =
-    same_count _ (λ s. (y : OutcomeValue) × With E p x s y) _ (λ s h. elim h [
-      | inl e ↦ (e.0, inl e.1)
-      | inr
-          same ↦ (x, inr (same, refl))
-    ]) (λ s h. elim h.1 [ inl e ↦ inl (h.0, e) | inr same ↦ inr same.0 ])
+    same_count _ (λ s. (y : OutcomeValue) × With E p x s y) _
+    (λ s h. elim h [ inl e ↦ (e.0, inl e.1) | inr same ↦ (x, inr (same, refl)) ])
+    (λ s h. elim h.1 [ inl e ↦ inl (h.0, e) | inr same ↦ inr same.0 ])
     (one_more _ n p (λ h. new h.0 h.1) counted)
 
 -- an end's count with one more schedule of that end
@@ -160,12 +133,7 @@ pub end_stays : (old : List Ending) (at : ℕ) (entry more : Ending) → slice_g
     → e.outcome ≡ y → (j : ℕ) × (f : Ending) × (slice_get (set old at more) j ≡ Some f) × (f.outcome ≡ y)
 end_stays old at entry more here same_outcome k e y h is =
     elim (cases_eq k at) [
-      | inl same ↦ (
-        at,
-        more,
-        get_set_here old at more (slice_get_within old at entry here),
-        cc,
-      )
+      | inl same ↦ (at, more, get_set_here old at more (slice_get_within old at entry here), cc)
       | inr other ↦ (k, e, get_set_other old at more k e other h, is)
     ]
 

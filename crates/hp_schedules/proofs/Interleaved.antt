@@ -1,14 +1,13 @@
 -- How many schedules there are in which each processor stands as often as wanted.
-use Rattle.std.proofs.Common.{◌≡◌, ℕ, zero, suc, ◌+◌, ◌*◌, ◌<◌, ◌≤◌, Bool, true, false, cond, eqb, List, [], ◌∷◌, length, take, set, get_or, Some, slice_get, refl, ap, sym, subst, ◌∙◌, arith, inl, inr}
+use Rattle.std.proofs.Common.{◌≡◌, ℕ, zero, suc, ◌+◌, ◌*◌, ◌<◌, ◌≤◌, Bool, true, false, cond, eqb, List, [], ◌∷◌, length, take, set, get_or, refl, ap, sym, subst, ◌∙◌, arith, inl, inr}
 use Rattle.std.specs.Prelude.{◌⊎◌}
 use Rattle.std.proofs.lemmas.Bool.{cases_Bool, cases_eq, cases_lt, eq-eqb, eqb-false, eqb-true}
-use Rattle.std.proofs.lemmas.List.{get_or-set_same, get_or-set_other, take_all}
+use Rattle.std.proofs.lemmas.List.{get_or-set_same, get_or-set_other, get_or_past, take_all}
 use Rattle.std.proofs.Math.Nat.{add-mul, mul_assoc, mul_left_comm}
-use Rattle.std.proofs.lemmas.Option.{same_Some}
 use Rattle.std.proofs.lemmas.List.Sums.{sum_by-cons, sum_by-set, sum_by_more}
 use Rattle.hp_schedules.specs.Orders.{HasCount}
 use Rattle.hp_schedules.specs.Multinomials.{IsMultinomial, factorial, factorials, sum, turns_of}
-use Rattle.hp_schedules.proofs.Counting.{Fronted, either_listed, fronted_listed, none_listed, same_count}
+use Rattle.hp_schedules.proofs.Counting.{Fronted, either_listed, fronted_listed, none_listed, same_count, this_listed}
 
 -- each processor stands as often as its number says, and none past the last
 abbrev pub HasTurns : List ℕ → List ℕ → Type 0
@@ -33,8 +32,8 @@ less_factorials [] c k within is = absurd (omega arith)
 less_factorials (n ∷ ns) zero k within is =
     ap (λ (m : ℕ). factorial m * factorials ns) is ∙ mul_assoc (suc k) (factorial k) (factorials ns)
 less_factorials (n ∷ ns) (suc c) k within is =
-    ap (λ (m : ℕ). factorial n * m) (less_factorials ns c k (omega arith) is)
-    ∙ mul_left_comm (factorial n) (suc k) (factorials (set ns c k))
+    rw (less_factorials ns c k (omega arith) is)
+    (mul_left_comm (factorial n) (suc k) (factorials (set ns c k)))
 
 -- another processor's number stays
 other_stays : (ns : List ℕ) (c cpu k : ℕ) → eqb c cpu ≡ false → get_or (set ns c k) cpu 0 ≡ get_or ns cpu 0
@@ -72,8 +71,7 @@ none_factorials [] none = refl
 none_factorials (n ∷ ns) none =
     let both = sum_by-cons (λ (m : ℕ). m) n ns in
     let first : n ≡ 0 = omega (arith, both, none) in
-    let rest : factorials ns ≡ 1 = none_factorials ns (omega (arith, both, none)) in
-    ap (λ (m : ℕ). factorial m * factorials ns) first ∙ omega (arith, rest)
+    rw (first, none_factorials ns (omega (arith, both, none)))
 
 none_sum : (ns : List ℕ) → ((c : ℕ) → get_or ns c 0 ≡ 0) → sum ns ≡ 0
 none_sum [] none = refl
@@ -83,25 +81,14 @@ none_sum (n ∷ ns) none =
 turned : (ns : List ℕ) (c : ℕ) (t : List ℕ) → HasTurns ns (c ∷ t) → 0 < get_or ns c 0
 turned ns c t h = omega (arith, h c, turns_cons c c t true (eq-eqb c c refl))
 
-get_or_past : (ns : List ℕ) (c : ℕ) → length ns ≤ c → get_or ns c 0 ≡ 0
-get_or_past [] c past = refl
-get_or_past (n ∷ ns) zero past = absurd (omega arith)
-get_or_past (n ∷ ns) (suc c) past = get_or_past ns c (omega arith)
-
 only_empty : (ns : List ℕ) → sum ns ≡ 0 → HasCount (HasTurns ns) 1
-only_empty ns none = ([] ∷ [], record { each = each; every = every; once = once }, refl)
+only_empty ns none =
+    same_count (λ s. s ≡ []) (HasTurns ns) 1 (λ s same cpu. rw same (sym (none_at ns cpu none))) empty
+    (this_listed [])
   where
-    each : (i : ℕ) (s : List ℕ) → slice_get ([] ∷ []) i ≡ Some s → HasTurns ns s
-    each zero s h = λ cpu. rw (← same_Some [] s h) (sym (none_at ns cpu none))
-    each (suc i) s h = absurd cc
-
-    every : (s : List ℕ) → HasTurns ns s → (i : ℕ) × (slice_get ([] ∷ []) i ≡ Some s)
-    every [] h = (0, refl)
-    every (c ∷ t) h = absurd (let some = turned ns c t h in omega (arith, some, none_at ns c none))
-
-    once : (i j : ℕ) (s : List ℕ) → slice_get ([] ∷ []) i ≡ Some s → slice_get ([] ∷ []) j ≡ Some s → i ≡ j
-    once zero zero s h k = refl
-    once i j s h k = absurd cc
+    empty : (s : List ℕ) → HasTurns ns s → s ≡ []
+    empty [] h = refl
+    empty (c ∷ t) h = absurd (let some = turned ns c t h in omega (arith, some, none_at ns c none))
 
 -- ---- by the processor that comes first
 
@@ -211,6 +198,6 @@ interleaved (suc n) ns all =
           t,
           refl,
           elim (cases_lt c (length ns))
-              [ inl l ↦ l | inr past ↦ absurd (omega (arith, some, get_or_past ns c past)) ],
+              [ inl l ↦ l | inr past ↦ absurd (omega (arith, some, get_or_past ns c 0 past)) ],
           h,
         )

@@ -16,7 +16,6 @@ use Rattle.hp_schedules.specs.Multinomials.{IsMultinomial, sum, turns_of}
 use Rattle.hp_schedules.specs.Orders.{HasCount}
 use Rattle.hp_schedules.specs.Schedules.{IsComplete, Setting, outcome_after, next_call, plays, record_of_call}
 use Rattle.hp_schedules.specs.Scripts.{Known, known_of, next_in}
-use Rattle.hp_schedules.proofs.Coefficients.{only_one}
 use Rattle.hp_schedules.proofs.Counting.{same_count}
 use Rattle.hp_schedules.proofs.Interleaved.{HasTurns, interleaved, turns_cons}
 use Rattle.hp_schedules.proofs.Agreeing.{each_passes}
@@ -24,7 +23,6 @@ use Rattle.hp_laws.proofs.Options.{cases_option}
 use Rattle.hp_schedules.proofs.OneCalls.{asks_once, skips, stays}
 use Rattle.hp_schedules.proofs.Plays.{from_news, stays_none}
 use Rattle.hp_schedules.proofs.Steps.{receipts_push}
-use Rattle.hp_schedules.proofs.Uniqueness.{only_count}
 
 -- ---- lines
 
@@ -50,8 +48,7 @@ asks_none : (cpus : ℕ) (known : Known) (lines : List Step) (rs : List Receipt)
 asks_none cpus known [] rs all le = refl
 asks_none cpus known (line ∷ lines) [] all le = absurd (omega arith)
 asks_none cpus known (line ∷ lines) (r ∷ rs) all le =
-    skips cpus known line lines r rs (and_parts _ _ all).0
-    ∙ asks_none cpus known lines rs (and_parts _ _ all).1 (omega arith)
+    grind (arith, and_parts, skips, asks_none cpus known lines rs)
 
 -- ---- scripts
 
@@ -159,7 +156,7 @@ length_at (lines ∷ scripts) zero = refl
 length_at (lines ∷ scripts) (suc cpu) = length_at scripts cpu
 
 -- as many as the multinomial coefficient of the scripts' lengths
-complete_counted : (g : Setting) → AreOneCalls g.scripts
+pub complete_counted : (g : Setting) → AreOneCalls g.scripts
     → (m : ℕ) × HasCount (IsComplete g) m × IsMultinomial (script_lengths g.scripts) m
 complete_counted g all =
     let counted = interleaved (sum (script_lengths g.scripts)) (script_lengths g.scripts) refl in (
@@ -169,15 +166,6 @@ complete_counted g all =
           (λ s h cpu. (complete_schedules g s all).0 h cpu ∙ sym (length_at g.scripts cpu)) counted.1,
       counted.2,
     )
-
-pub counted_by_lengths : (g : Setting) (m : ℕ) → AreOneCalls g.scripts → HasCount (IsComplete g) m
-    → IsMultinomial (script_lengths g.scripts) m
-counted_by_lengths g m all counted =
-    let one = complete_counted g all in rw (← only_count (IsComplete g) one.0 m one.1 counted) one.2
-
-pub lengths_count : (g : Setting) (m : ℕ) → AreOneCalls g.scripts
-    → IsMultinomial (script_lengths g.scripts) m → HasCount (IsComplete g) m
-lengths_count g m all is = let one = complete_counted g all in rw (← only_one _ _ m one.2 is) one.1
 
 -- ---- how many calls there are, and the room that they need
 

@@ -1,5 +1,5 @@
 -- One record more after nets that lead to the same states but for the numbers of operations.
-use Rattle.std.proofs.Common.{◌≡◌, ℕ, Bool, true, false, cond, eqb, List, [], ◌∷◌, ◌++◌, map, take, Option, Some, None, refl, ap, sym, ◌∙◌, inl, inr}
+use Rattle.std.proofs.Common.{◌≡◌, ℕ, true, eqb, List, [], ◌∷◌, ◌++◌, map, take, Option, Some, None, refl, ap, sym, ◌∙◌, inl, inr, arith}
 use Rattle.std.proofs.lemmas.Bool.{cases_Bool}
 use Rattle.hp_units.specs.History.{Effect, Looks, Cancels, Acts, cancel_reply, cut_or_add, effect_of, is_refused, net_with, net_with_effect, run}
 use Rattle.hp_units.specs.LayoutParts.{LayoutParts}
@@ -20,7 +20,7 @@ use Rattle.hp_schedules.specs.Alike.{leaves_steps}
 use Rattle.hp_schedules.specs.Continuing.{AreJoinedBy, IsSameReceipt}
 use Rattle.hp_schedules.specs.Openings.{AreOpen, Opening, after_cancel, after_work, change_by, change_of, renumbered_change, renumbered_opening}
 use Rattle.hp_schedules.specs.declared.changes.Change.{Change}
-use Rattle.hp_schedules.specs.declared.changes.Change.TheVariants.{Stays, Works, Cancels as Cancelled}
+use Rattle.hp_schedules.specs.declared.changes.Change.TheVariants.{Works, Cancels as Cancelled}
 use Rattle.hp_schedules.proofs.Opened.{open_more}
 use Rattle.hp_schedules.proofs.Openings.{changed, openings_after}
 
@@ -49,26 +49,17 @@ change_by_same f e = refl
 changes_same : (p q : ℕ → ℕ) (r s : Record) → IsSameRecord p q r s
     → renumbered_change p (change_of r) ≡ renumbered_change q (change_of s)
 changes_same p q r s same =
-    rw (by_reply p (is_refused r.reply) (change_by r.event))
-    (rw (by_reply q (is_refused s.reply) (change_by s.event), ← change_by_same p r.event)
-    (rw (← change_by_same q s.event, same.receipt.reply, same.receipt.event)))
-  where
-    by_reply : (f : ℕ → ℕ) (refused : Bool) (change : Change)
-        → renumbered_change f (cond refused Stays change) ≡ cond refused Stays (renumbered_change f change)
-    by_reply f true change = refl
-    by_reply f false change = refl
+    grind (arith, cases_Bool, change_by_same, same.receipt.reply, same.receipt.event)
 
 pub work_same : (f : ℕ → ℕ) → IsOneToOne f → (op : ℕ) (os : List Opening)
     → map (renumbered_opening f) (after_work op os) ≡ after_work (f op) (map (renumbered_opening f) os)
 work_same f one op [] = refl
-work_same f one op (o ∷ os) =
-    rw (number_same f one o.op op) (elim (cases_Bool (eqb o.op op)) [ inl e ↦ rw e | inr e ↦ rw e ])
+work_same f one op (o ∷ os) = grind (arith, cases_Bool, number_same f one)
 
 pub cancel_same : (f : ℕ → ℕ) → IsOneToOne f → (op : ℕ) (os : List Opening)
     → map (renumbered_opening f) (after_cancel op os) ≡ after_cancel (f op) (map (renumbered_opening f) os)
 cancel_same f one op [] = refl
-cancel_same f one op (o ∷ os) =
-    rw (number_same f one o.op op) (elim (cases_Bool (eqb o.op op)) [ inl e ↦ rw e | inr e ↦ rw e ])
+cancel_same f one op (o ∷ os) = grind (arith, cases_Bool, number_same f one)
 
 changed_same : (f : ℕ → ℕ) → IsOneToOne f → (here : Memory) (serial : ℕ) (os : List Opening) (c : Change)
     → map (renumbered_opening f) (changed here serial os c)

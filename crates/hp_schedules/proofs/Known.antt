@@ -1,5 +1,5 @@
 -- The digests of the ends have places.
-use Rattle.std.proofs.Common.{◌≡◌, ℕ, ◌+◌, true, false, List, [], ◌∷◌, ◌++◌, set, Some, None, slice_get, refl, ap, sym, ◌∙◌, inl, inr, is_some}
+use Rattle.std.proofs.Common.{◌≡◌, ℕ, ◌+◌, true, false, List, [], ◌∷◌, ◌++◌, set, Some, None, slice_get, refl, ap, sym, ◌∙◌, is_some, arith}
 use Rattle.std.specs.Prelude.{fold, nat_eq}
 use Rattle.std.proofs.lemmas.List.Sums.{fold-append}
 use Rattle.indexmap.specs.IndexMap.{ContainsKey, IndexMap, get}
@@ -32,11 +32,7 @@ unknown ends x latest digest known is none k e here same =
 pub known_set : {S : Type 0} (ends : List Ending) (place : ℕ) (e more : Ending) (latest : IndexMap ℕ ℕ S)
     → slice_get ends place ≡ Some e → more.outcome ≡ e.outcome → AreKnown ends latest
     → AreKnown (set ends place more) latest
-known_set ends place e more latest here same known k f h =
-    elim (get_set_cases ends place more k f h) [
-      | inl now ↦ rw (← now.1, same) (known place e here)
-      | inr old ↦ known k f old.1
-    ]
+known_set ends place e more latest here same known k f h = grind (arith, get_set_cases, known)
 
 -- and one that is added
 pub known_first : {S : Type 0} (ends new : List Ending) (entry : Ending) (x : OutcomeValue) (digest : ℕ)
@@ -45,7 +41,4 @@ pub known_first : {S : Type 0} (ends new : List Ending) (entry : Ending) (x : Ou
     → ((d : ℕ) → ContainsKey nat_eq old d → ContainsKey nat_eq latest d) → ContainsKey nat_eq latest digest
     → AreKnown ends old → AreKnown new latest
 known_first ends new entry x digest old latest outcome_is digest_is is kept here known k e h =
-    elim (get_push_cases ends entry e k (rw is at h)) [
-      | inl before ↦ kept (digest_of e.outcome) (known k e before)
-      | inr last ↦ rw (← last.1, outcome_is, ← digest_is) here
-    ]
+    grind (arith, get_push_cases, kept, known)

@@ -15,6 +15,7 @@ pub mod Continuing
 pub mod Copied
 pub mod Counting
 pub mod Counts
+pub mod Freeing
 pub mod Interleaved
 pub mod Interleavings
 pub mod Known

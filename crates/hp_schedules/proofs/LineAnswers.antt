@@ -1,10 +1,10 @@
 -- Answers to lines: those before a place, those after it, and later ones.
-use Rattle.std.proofs.Common.{◌≡◌, ℕ, ◌-◌, false, eqb, List, [], ◌∷◌, ◌++◌, length, take, Some, None, slice_get, refl, ap, ◌∙◌, arith, inl, inr}
+use Rattle.std.proofs.Common.{◌≡◌, ℕ, ◌-◌, false, List, [], ◌∷◌, ◌++◌, length, take, Some, slice_get, refl, ap, ◌∙◌, arith, inl, inr}
 use Rattle.std.specs.Option.{option_map_or}
-use Rattle.std.proofs.lemmas.Bool.{cases_Bool, eqb-true}
+use Rattle.std.proofs.lemmas.Bool.{ne_eqb}
 use Rattle.std.proofs.lemmas.List.{append-nil, append_assoc, length-append, map-append, take-append-le, take_all}
 use Rattle.std.proofs.lemmas.List.Elements.{filter-append}
-use Rattle.std.proofs.lemmas.Option.{same_Some}
+use Rattle.std.proofs.lemmas.Option.{same_Some, none-some}
 use Rattle.hp_units.specs.Receipts.{receipts_of}
 use Rattle.hp_units.specs.declared.replies.Receipt.{Receipt}
 use Rattle.hp_units.specs.declared.replies.Record.{Record}
@@ -28,16 +28,6 @@ without_is own rest =
     whole : length (own ++ rest) - length rest ≡ length own
     whole = omega (arith, length-append own rest)
 
-pub first_over : (cpus : ℕ) (line : Step) (lines : List Step) (receipts rest : List Receipt)
-    → after_line cpus nothing_known line [] receipts ≡ Some rest
-    → answers_in cpus (line ∷ lines) receipts
-    ≡ answer_of line (without receipts rest) ∷ answers_in cpus lines rest
-first_over cpus line lines receipts rest is = rw is
-
-pub first_on : (cpus : ℕ) (line : Step) (lines : List Step) (receipts : List Receipt)
-    → after_line cpus nothing_known line [] receipts ≡ None → answers_in cpus (line ∷ lines) receipts ≡ []
-first_on cpus line lines receipts is = rw is
-
 -- more receipts do not change its answer
 pub first_more : (cpus : ℕ) (line : Step) (lines : List Step) (receipts more rest : List Receipt)
     → after_line cpus nothing_known line [] receipts ≡ Some rest
@@ -60,8 +50,7 @@ pub answers_past : (cpus : ℕ) (lines others : List Step) (receipts rest : List
     ≡ answers_in cpus lines receipts ++ answers_in cpus others rest
 answers_past cpus [] others receipts rest is = ap (answers_in cpus others) (same_Some receipts rest is)
 answers_past cpus (line ∷ lines) others receipts rest is =
-    let parts = first_then cpus nothing_known line lines receipts rest is in
-    rw (parts.first, answers_past cpus lines others parts.left rest parts.others)
+    grind (arith, cases_option, none-some, answers_past cpus lines)
 
 -- each has an answer, which stays
 pub answers_many : (cpus : ℕ) (lines : List Step) (receipts rest : List Receipt)
@@ -69,8 +58,7 @@ pub answers_many : (cpus : ℕ) (lines : List Step) (receipts rest : List Receip
     → length (answers_in cpus lines receipts) ≡ length lines
 answers_many cpus [] receipts rest is = refl
 answers_many cpus (line ∷ lines) receipts rest is =
-    let parts = first_then cpus nothing_known line lines receipts rest is in
-    rw parts.first (omega (arith, answers_many cpus lines parts.left rest parts.others))
+    grind (arith, cases_option, none-some, answers_many cpus lines)
 
 pub answers_kept : (cpus : ℕ) (lines : List Step) (receipts more rest : List Receipt)
     → after_lines cpus nothing_known lines receipts ≡ Some rest
@@ -116,7 +104,4 @@ others_stay g cpu news r other =
     option_map_or (λ lines. answers_in g.layout.cpus lines rs) (slice_get g.scripts cpu) []) same
   where
     same : receipts_of cpu (news ++ r ∷ []) ≡ receipts_of cpu news
-    same = elim (cases_Bool (eqb r.cpu cpu)) [
-      | inl e ↦ absurd (other (eqb-true r.cpu cpu e))
-      | inr e ↦ receipts_push cpu news r false e ∙ append-nil (receipts_of cpu news)
-    ]
+    same = receipts_push cpu news r false (ne_eqb r.cpu cpu other) ∙ append-nil (receipts_of cpu news)

@@ -1,7 +1,7 @@
 -- What one record more makes of the operations that Cancels can take back whole.
-use Rattle.std.proofs.Common.{◌≡◌, ℕ, suc, ◌<◌, Bool, true, false, cond, eqb, List, [], ◌∷◌, ◌++◌, length, map, take, Option, Some, None, refl, ap, subst, ◌∙◌, arith}
-use Rattle.std.specs.Prelude.{◌&&◌, option_map}
-use Rattle.std.proofs.lemmas.Bool.{eq-eqb, eqb-true}
+use Rattle.std.proofs.Common.{◌≡◌, ℕ, Bool, true, false, cond, eqb, List, [], ◌∷◌, ◌++◌, length, map, take, Option, Some, None, refl, ap, subst, ◌∙◌, arith}
+use Rattle.std.specs.Prelude.{◌&&◌}
+use Rattle.std.proofs.lemmas.Bool.{eq-eqb, eqb-true, cases_Bool}
 use Rattle.std.proofs.lemmas.List.{length-map, map-append, take-append-le, take_all}
 use Rattle.std.proofs.lemmas.List.Recursion.{and_push}
 use Rattle.std.proofs.lemmas.Option.{slice_get_within}
@@ -39,20 +39,8 @@ pub sole_push : (op : ℕ) (ts : List Tag) (t : Tag)
     → sole_at op (ts ++ t ∷ [])
     ≡ cond (begins op t) (Some (length ts)) (cond (is_work_of op t.mark) (sole_at op ts) None)
 unfolding sole_at
-sole_push op [] t = by_tests (begins op t) (is_work_of op t.mark)
-  where
-    by_tests : (b w : Bool)
-        → cond (b && true) (Some 0) (option_map suc None) ≡ cond b (Some 0) (cond w None None)
-    by_tests b w = grind arith
-sole_push op (u ∷ ts) t =
-    rw (sole_push op ts t, only_push op ts t)
-    (by_tests (begins op t) (is_work_of op t.mark) (begins op u) (holds_only_own_work op ts) (length ts)
-    (sole_at op ts) (begins_no_work op t.mark (eqb t.serial op)))
-  where
-    by_tests : (b w u o : Bool) (n : ℕ) (s : Option ℕ) → (b ≡ true → w ≡ false)
-        → cond (u && (o && w)) (Some 0) (option_map suc (cond b (Some n) (cond w s None)))
-        ≡ cond b (Some (suc n)) (cond w (cond (u && o) (Some 0) (option_map suc s)) None)
-    by_tests b w u o n s apart = grind arith
+sole_push op [] t = grind (arith, cases_Bool)
+sole_push op (u ∷ ts) t = grind (arith, cases_Bool, sole_push op ts t, only_push, begins_no_work)
 
 -- the same of records
 sole_more : (op : ℕ) (net : List Record) (r : Record) (m : Mark) → mark_of r.event ≡ m
@@ -67,8 +55,7 @@ before_place : (op : ℕ) (net : List Record) (r : Record) (place : ℕ)
     → sole_at op (map tag_of net) ≡ Some place → take place (net ++ r ∷ []) ≡ take place net
 before_place op net r place sole =
     let found = sole_sound op (map tag_of net) place sole in
-    let within : place < length (map tag_of net) =
-    slice_get_within (map tag_of net) place found.tag found.here in
+    let within = slice_get_within (map tag_of net) place found.tag found.here in
     take-append-le place net (r ∷ []) (omega (arith, within, length-map net tag_of))
 
 -- ---- what is open

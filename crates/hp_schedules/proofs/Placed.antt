@@ -1,30 +1,26 @@
 -- Where all processors are in their scripts, after a call and back over it.
-use Rattle.std.proofs.Common.{◌≡◌, ℕ, zero, suc, ◌<◌, ◌≤◌, List, [], ◌∷◌, ◌++◌, length, set, Option, Some, None, slice_get, refl, ap, sym, ◌∙◌, arith, inl, inr, map}
-use Rattle.std.proofs.lemmas.Bool.{cases_lt, ne_eqb}
+use Rattle.std.proofs.Common.{◌≡◌, ℕ, zero, suc, ◌<◌, drop, List, [], ◌∷◌, ◌++◌, length, set, Option, Some, None, slice_get, refl, ap, sym, ◌∙◌, arith, inl, inr, map}
+use Rattle.std.specs.Prelude.{flat_map}
+use Rattle.std.proofs.lemmas.Bool.{ne_eqb}
 use Rattle.std.proofs.lemmas.List.{append-nil, length-map, length-set}
-use Rattle.std.proofs.lemmas.Option.{none-some, slice_get-map, same_Some, slice_get_within}
+use Rattle.std.proofs.lemmas.Option.{slice_get-map, same_Some, slice_get_within}
 use Rattle.hp_laws.proofs.Lists.{get_some}
 use Rattle.hp_units.specs.Receipts.{receipt_of, receipts_of}
 use Rattle.hp_units.specs.declared.events.Event.{Event}
 use Rattle.hp_units.specs.declared.replies.Receipt.{Receipt}
 use Rattle.hp_units.specs.declared.replies.Record.{Record}
-use Rattle.hp_schedules.specs.Cursors.{AreCursors, IsCalledFor, IsCursor, IsRequested, IsSettled, IsSteered, asks_at, cursor_at, frames_ahead, steering_of}
+use Rattle.hp_schedules.specs.Cursors.{AreCursors, IsCalledFor, IsCursor, IsRequested, IsSettled, IsSteered, asks_at, cursor_at, frames_ahead, frames_named, steering_of}
 use Rattle.hp_schedules.specs.Schedules.{Setting, next_call}
-use Rattle.hp_schedules.specs.Scripts.{own_operation, next_of}
+use Rattle.hp_schedules.specs.Scripts.{frames_of, own_operation, next_of}
 use Rattle.hp_schedules.specs.declared.cursors.Cursor.{Cursor}
 use Rattle.hp_schedules.specs.declared.cursors.NextCall.{NextCall}
 use Rattle.hp_schedules.specs.declared.scripts.Step.{Step}
 use Rattle.hp_schedules.proofs.Asked.{begins}
 use Rattle.hp_schedules.proofs.Counts.{get_set_cases}
-use Rattle.hp_schedules.proofs.Plays.{none_past}
+use Rattle.hp_schedules.proofs.Plays.{asks_within}
 use Rattle.hp_schedules.proofs.Steps.{receipts_own, receipts_push}
 
 -- ---- where the scripts begin
-
-pub many_begun : (cpus : ℕ) (scripts : List (List Step)) (cursors : List Cursor)
-    → cursors ≡ map (λ (lines : List Step). cursor_at cpus lines 0 0) scripts
-    → length cursors ≡ length scripts
-many_begun cpus scripts cursors is = rw (is, length-map)
 
 pub all_begun : (g : Setting) (cpus : ℕ) (scripts : List (List Step)) (cursors : List Cursor)
     → g.scripts ≡ scripts → g.layout.cpus ≡ cpus
@@ -64,28 +60,22 @@ called_for g news cpu lines (Some q) here some = (
   λ ls there. let same : lines ≡ ls = cc in (rw (← same) some.1, rw (← same) some.2),
 )
 
--- as it is read
-pub requested_at : (g : Setting) (news : List Record) (cpus cpu : ℕ) (scripts : List (List Step))
-    (lines shown : List Step) (cursors : List Cursor) (cursor : Cursor) (q : Option NextCall)
-    → g.scripts ≡ scripts → g.layout.cpus ≡ cpus → slice_get scripts cpu ≡ Some lines → shown ≡ lines
-    → slice_get cursors cpu ≡ Some cursor → AreCursors g news cursors
-    → (IsCursor cpus shown (receipts_of cpu news) cursor → IsRequested cpus shown (receipts_of cpu news) q)
+-- from its cursor
+pub requested_at : (g : Setting) (news : List Record) (cpus cpu : ℕ) (lines : List Step)
+    (cursors : List Cursor) (cursor : Cursor) (q : Option NextCall)
+    → g.layout.cpus ≡ cpus → slice_get g.scripts cpu ≡ Some lines → slice_get cursors cpu ≡ Some cursor
+    → AreCursors g news cursors
+    → (IsCursor cpus lines (receipts_of cpu news) cursor → IsRequested cpus lines (receipts_of cpu news) q)
     → IsCalledFor g cpu news q
-requested_at g news cpus cpu scripts lines shown cursors cursor q scripts_is cpus_is here same there all
-    asks =
-    let within : slice_get g.scripts cpu ≡ Some lines = rw scripts_is here in
-    called_for g news cpu lines q within
-    (rw (cpus_is, ← same) (asks (rw (← cpus_is, same) (all.each cpu lines cursor within there))))
+requested_at g news cpus cpu lines cursors cursor q cpus_is here there all asks =
+    called_for g news cpu lines q here
+    (rw cpus_is (asks (rw (← cpus_is) (all.each cpu lines cursor here there))))
 
--- a processor that has no script asks for nothing
-pub requested_past : (g : Setting) (news : List Record) (cpu : ℕ) (scripts : List (List Step))
-    → g.scripts ≡ scripts → length scripts ≤ cpu → next_call g cpu news ≡ None
-requested_past g news cpu scripts scripts_is past = none_past g news cpu (rw scripts_is past)
-
--- one whose script asks for something has one
+-- a processor whose script asks for something has one
 pub called_within : (g : Setting) (cpu : ℕ) (news : List Record) (scripts : List (List Step)) (event : Event)
     → g.scripts ≡ scripts → next_call g cpu news ≡ Some event → cpu < length scripts
-called_within g cpu news scripts event scripts_is asked = grind (arith, cases_lt, none-some, requested_past)
+called_within g cpu news scripts event scripts_is asked =
+    rw scripts_is at (asks_within g news cpu event asked)
 
 -- ---- one call more, and back over it
 
@@ -122,29 +112,19 @@ cursors_more g news r cursors lines later here is settles all =
         receipts_push k news r _ (ne_eqb r.cpu k (λ same. off (sym same))) ∙ append-nil (receipts_of k news)
 
 -- the processor's cursor goes on from where its script asked for the call
-pub went_on : (g : Setting) (news : List Record) (r : Record) (cpus cpu : ℕ) (scripts : List (List Step))
-    (lines shown : List Step) (old new : List Cursor) (later : Cursor) (request : NextCall)
-    → g.scripts ≡ scripts → g.layout.cpus ≡ cpus → r.cpu ≡ cpu → slice_get scripts cpu ≡ Some lines
-    → shown ≡ lines → ((receipts : List Receipt) (event : Event) → IsCursor cpus shown receipts request.from
-    → asks_at receipts request.from shown ≡ Some event
-    → IsCursor cpus shown (receipts ++ receipt_of r ∷ []) later
-    × IsSettled shown later)
+pub went_on : (g : Setting) (news : List Record) (r : Record) (cpus cpu : ℕ) (lines : List Step)
+    (old new : List Cursor) (later : Cursor) (request : NextCall)
+    → g.layout.cpus ≡ cpus → r.cpu ≡ cpu → slice_get g.scripts cpu ≡ Some lines
+    → ((receipts : List Receipt) (event : Event) → IsCursor cpus lines receipts request.from
+    → asks_at receipts request.from lines ≡ Some event
+    → IsCursor cpus lines (receipts ++ receipt_of r ∷ []) later × IsSettled lines later)
     → new ≡ set old cpu later → AreCursors g news old → IsCalledFor g cpu news (Some request)
     → AreCursors g (news ++ r ∷ []) new
-went_on g news r cpus cpu scripts lines shown old new later request scripts_is cpus_is whose here same after
-    is
-    all called =
+went_on g news r cpus cpu lines old new later request cpus_is whose here after is all called =
+    let call = called.1 lines here in
+    let moved = after (receipts_of cpu news) request.event (rw (← cpus_is) call.0) call.1 in
     rw (is, ← whose)
-    (cursors_more g news r old lines later (rw whose within) (rw (whose, cpus_is, ← same) moved.0)
-    (rw (← same) moved.1) all)
-  where
-    within : slice_get g.scripts cpu ≡ Some lines
-    within = rw scripts_is here
-
-    moved : IsCursor cpus shown (receipts_of cpu news ++ receipt_of r ∷ []) later × IsSettled shown later
-    moved =
-        after (receipts_of cpu news) request.event (rw (← cpus_is, same) (called.1 lines within).0)
-        (rw same (called.1 lines within).1)
+    (cursors_more g news r old lines later (rw whose here) (rw (whose, cpus_is) moved.0) moved.1 all)
 
 -- ---- the operation that a processor began last
 
@@ -158,11 +138,14 @@ operation_at g news cursors cursor cpu here all =
 
 -- ---- the numbers of a processor's cursor
 
-pub steered_at : (f : ℕ → ℕ) (g : Setting) (news : List Record) (cpu : ℕ) (scripts : List (List Step))
-    (lines shown : List Step) (cursors : List Cursor) (cursor : Cursor)
-    → g.scripts ≡ scripts → slice_get scripts cpu ≡ Some lines → shown ≡ lines
+pub steered_at : (f : ℕ → ℕ) (g : Setting) (news : List Record) (cpu : ℕ) (lines shown : List Step)
+    (cursors : List Cursor) (cursor : Cursor)
+    → slice_get g.scripts cpu ≡ Some lines
+    → ((frames : List ℕ) (k : ℕ)
+    → flat_map (frames_named frames) (drop k shown) ≡ flat_map (frames_named frames) (drop k lines))
     → slice_get cursors cpu ≡ Some cursor → AreCursors g news cursors
     → IsSteered f g cpu news (steering_of f cursor ++ frames_ahead cursor shown (receipts_of cpu news))
-steered_at f g news cpu scripts lines shown cursors cursor scripts_is here same there all ls script =
-    let found = rw (scripts_is, here) at script in
-    let read : shown ≡ ls = cc in (cursor, all.each cpu ls cursor script there, rw read)
+steered_at f g news cpu lines shown cursors cursor here same there all ls script =
+    let read : lines ≡ ls = cc in
+    let numbers = same (frames_of (receipts_of cpu news)) cursor.line in
+    (cursor, all.each cpu ls cursor script there, rw (numbers, read))

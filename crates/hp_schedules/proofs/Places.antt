@@ -7,13 +7,12 @@ use Rattle.std.proofs.lemmas.List.Sums.{sum_by_push}
 use Rattle.std.proofs.lemmas.Option.{same_Some}
 use Rattle.hp_units.specs.declared.replies.Record.{Record}
 use Rattle.hp_units.specs.declared.replies.Reply.{Reply}
-use Rattle.hp_units.specs.declared.rows.Row.{Row}
 use Rattle.hp_laws.proofs.Lists.{get_push_cases}
 use Rattle.hp_laws.proofs.Replays.{take_one}
 use Rattle.hp_schedules.specs.declared.tally.Ending.{Ending}
 use Rattle.hp_schedules.specs.Notes.{AddsEnd, AddsOne, HasEndAt, HasNoEnd}
 use Rattle.hp_schedules.specs.Shares.{AddsAt}
-use Rattle.hp_schedules.specs.Outcomes.{OutcomeValue, outcome_with, replies_below, replies_to}
+use Rattle.hp_schedules.specs.Outcomes.{OutcomeValue, replies_below, replies_to}
 
 -- no end up to the next place has the outcome
 pub none_more : (ends : List Ending) (x : OutcomeValue) (at : ℕ) (e : Ending) → HasNoEnd (take at ends) x
@@ -37,13 +36,6 @@ replies_more all answers news cpu so_far is =
     rw (so_far, is) (sym (map-range_with_len_more (λ (c : ℕ). replies_to c news) 0 cpu cpu (omega arith)))
 
 -- ---- one schedule more
-
--- replies and rows are an outcome
-pub outcome_told : (all : List (List Reply)) (rows : List Row) (x : OutcomeValue) (processors : ℕ)
-    (news : List Record)
-    → x ≡ record { replies = all; blocks = rows } → all ≡ replies_below processors news
-    → x ≡ outcome_with processors news rows
-outcome_told all rows x processors news is replies = rw (is, replies)
 
 -- an end in a list that is shown
 pub end_shown : (shown ends : List Ending) (x : OutcomeValue) (place : ℕ) → shown ≡ ends

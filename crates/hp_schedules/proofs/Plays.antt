@@ -1,5 +1,5 @@
 -- Where a schedule leads to, by what it begins with.
-use Rattle.std.proofs.Common.{◌≡◌, ℕ, ◌<◌, ◌≤◌, List, [], ◌∷◌, ◌++◌, length, Option, Some, None, refl, ap, sym, ◌∙◌, inl, inr}
+use Rattle.std.proofs.Common.{◌≡◌, ℕ, ◌<◌, ◌≤◌, List, [], ◌∷◌, ◌++◌, length, Option, Some, None, refl, ap, sym, ◌∙◌, inl, inr, arith}
 use Rattle.std.specs.Prelude.{fold, option_map}
 use Rattle.std.proofs.lemmas.Bool.{cases_lt}
 use Rattle.std.proofs.lemmas.List.{append_assoc, append-nil}
@@ -63,11 +63,7 @@ none_past g news cpu past = rw (slice_get_past g.scripts cpu past)
 -- so whoever asks has one
 pub asks_within : (g : Setting) (news : List Record) (cpu : ℕ) (event : Event)
     → next_call g cpu news ≡ Some event → cpu < length g.scripts
-asks_within g news cpu event asked =
-    elim (cases_lt cpu (length g.scripts)) [
-      | inl less ↦ less
-      | inr past ↦ absurd (none-some event (sym (none_past g news cpu past) ∙ asked))
-    ]
+asks_within g news cpu event asked = grind (arith, cases_lt, none_past, none-some)
 
 -- ---- complete schedules
 
@@ -102,9 +98,8 @@ goes_on g p news cpu event s x played asked extends ends = by_rest extends.0 ext
     by_rest : (rest : List ℕ) → s ≡ p ++ rest
         → (next : ℕ) × (next < length g.scripts) × Extends s (p ++ next ∷ [])
     by_rest [] is =
-        let same : s ≡ p = is ∙ append-nil p in
         let news_same : ends.news ≡ news =
-        same_Some ends.news news (sym ends.played ∙ (ap (plays g) same ∙ played)) in
+        same_Some ends.news news (sym ends.played ∙ (ap (plays g) (is ∙ append-nil p) ∙ played)) in
         absurd (none-some event (sym (rw news_same at (ends.over cpu)) ∙ asked))
     by_rest (c ∷ rest) is =
         elim (cases_option (next_call g c news)) [

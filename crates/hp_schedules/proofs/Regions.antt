@@ -50,13 +50,11 @@ before_first (d ∷ s) (c ∷ p) h = elim h [ inl l ↦ inl l | inr e ↦ inr (e
 pub before_next : (s p : List ℕ) (c : ℕ) → IsBefore s (p ++ (c + 1) ∷ [])
     → IsBefore s (p ++ c ∷ []) ⊎ Extends s (p ++ c ∷ [])
 before_next [] [] c h = absurd h
-before_next (d ∷ s) [] c h = elim h [ inl l ↦ here d c l | inr e ↦ absurd e.1 ]
-  where
-    cases : (d c : ℕ) → d < c + 1 → (d < c) ⊎ (d ≡ c)
-    cases d c l = elim (cases_lt d c) [ inl less ↦ inl less | inr more ↦ inr (omega arith) ]
-
-    here : (d c : ℕ) → d < c + 1 → ((d < c) ⊎ ((d ≡ c) × ⊥)) ⊎ Extends (d ∷ s) (c ∷ [])
-    here d c l = elim (cases d c l) [ inl less ↦ inl (inl less) | inr same ↦ inr (s, rw same refl) ]
+before_next (d ∷ s) [] c h = elim h [
+  | inl l ↦ elim (cases_lt d c)
+      [ inl less ↦ inl (inl less) | inr more ↦ inr (extends_cons c d s [] (omega arith) (s, refl)) ]
+  | inr e ↦ absurd e.1
+]
 before_next [] (b ∷ p) c h = absurd h
 before_next (d ∷ s) (b ∷ p) c h =
     elim h [

@@ -30,8 +30,7 @@ turn_renumbered f turns op rs = elim (cases_Bool (ltb (tried rs) turns)) [ inl e
 
 drain_renumbered : (f : ℕ → ℕ) (cpus turns op cpu : ℕ) (rs : List Receipt)
     → renumbered_event f (next_drain cpus turns op cpu rs) ≡ next_drain cpus turns (f op) cpu rs
-drain_renumbered f cpus turns op cpu rs =
-    elim (cases_Bool (ltb cpu cpus)) [ inl e ↦ rw e | inr e ↦ rw e (turn_renumbered f turns op rs) ]
+drain_renumbered f cpus turns op cpu rs = grind (arith, cases_Bool, turn_renumbered)
 
 -- what is next after an event and its reply
 after_renumbered : (f : ℕ → ℕ) (cpus turns : ℕ) (rs : List Receipt) (e : Event) (reply : Reply)

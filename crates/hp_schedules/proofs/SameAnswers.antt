@@ -13,9 +13,7 @@ use Rattle.hp_units.specs.declared.replies.OpEnd.{OpEnd}
 use Rattle.hp_units.specs.declared.replies.Receipt.{Receipt}
 use Rattle.hp_units.specs.declared.replies.Record.{Record}
 use Rattle.hp_units.specs.declared.replies.Refusal.{Refusal}
-use Rattle.hp_units.specs.declared.replies.Refusal.TheVariants.{NoOp}
 use Rattle.hp_units.specs.declared.replies.Reply.{Reply}
-use Rattle.hp_units.specs.declared.replies.Reply.TheVariants.{Done, Restored, Released, Refused}
 use Rattle.hp_laws.specs.Renumbered.{renumbered_reply}
 use Rattle.hp_laws.proofs.Alike.{unseen_same}
 use Rattle.hp_schedules.specs.Continuing.{AreSameReceipts, IsSameReceipt, anonymous_record}
@@ -47,13 +45,11 @@ take_same p q (suc n) xs ys same = absurd same
 -- the operation that an event works on shows neither in its cause nor in its end
 migrate_cause : (cause : Option Refusal) (reply : Reply) (op other : ℕ)
     → cause_after cause (Migrate op) reply ≡ cause_after cause (Migrate other) reply
-migrate_cause cause (Refused refusal) op other = refl
-migrate_cause cause reply op other = refl
+migrate_cause cause reply op other = grind arith
 
 commit_cause : (cause : Option Refusal) (reply : Reply) (op other : ℕ)
     → cause_after cause (Commit op) reply ≡ cause_after cause (Commit other) reply
-commit_cause cause (Refused refusal) op other = refl
-commit_cause cause reply op other = refl
+commit_cause cause reply op other = grind arith
 
 cause_same : (p q : ℕ → ℕ) (cause : Option Refusal) (r s : Receipt) → IsSameReceipt p q r s
     → cause_after cause r.event r.reply ≡ cause_after cause s.event s.reply
@@ -64,26 +60,19 @@ cause_same p q cause r s same =
 
 drain_end : (cause : Option Refusal) (reply : Reply) (op other drained : ℕ)
     → end_after cause (DrainFor op drained) reply ≡ end_after cause (DrainFor other drained) reply
-drain_end cause (Refused NoOp) op other drained = refl
-drain_end cause reply op other drained = refl
+drain_end cause reply op other drained = grind arith
 
 migrate_end : (cause : Option Refusal) (reply : Reply) (op other : ℕ)
     → end_after cause (Migrate op) reply ≡ end_after cause (Migrate other) reply
-migrate_end cause (Refused NoOp) op other = refl
-migrate_end cause reply op other = refl
+migrate_end cause reply op other = grind arith
 
 commit_end : (cause : Option Refusal) (reply : Reply) (op other : ℕ)
     → end_after cause (Commit op) reply ≡ end_after cause (Commit other) reply
-commit_end cause (Refused NoOp) op other = refl
-commit_end cause Done op other = refl
-commit_end cause reply op other = refl
+commit_end cause reply op other = grind arith
 
 cancel_end : (cause : Option Refusal) (reply : Reply) (op other : ℕ)
     → end_after cause (Cancel op) reply ≡ end_after cause (Cancel other) reply
-cancel_end cause (Refused NoOp) op other = refl
-cancel_end cause Restored op other = refl
-cancel_end cause Released op other = refl
-cancel_end cause reply op other = refl
+cancel_end cause reply op other = grind arith
 
 last_end : (p q : ℕ → ℕ) (cause : Option Refusal) (r s : Receipt) → IsSameReceipt p q r s
     → end_after cause r.event r.reply ≡ end_after cause s.event s.reply

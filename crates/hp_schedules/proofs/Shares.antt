@@ -66,35 +66,26 @@ counts_in shares (suc n) = counts_in shares n ++ amount_of shares n ∷ []
 
 pub counts_long : (shares : List Share) (many : ℕ) → length (counts_in shares many) ≡ many
 counts_long shares zero = refl
-counts_long shares (suc n) =
-    let longer = length_push (counts_in shares n) (amount_of shares n) in
-    omega (arith, longer, counts_long shares n)
+counts_long shares (suc n) = grind (arith, length_push, counts_long shares n)
 
 counts_below : (shares : List Share) (many k : ℕ) → k < many
     → get_or (counts_in shares many) k 0 ≡ amount_of shares k
 counts_below shares zero k less = absurd (omega arith)
 counts_below shares (suc n) k less =
-    elim (cases_lt k n) [
-      | inl below ↦
-          get_or_append_left (counts_in shares n) (amount_of shares n ∷ []) 0 k
-          (omega (arith, below, counts_long shares n))
-          ∙ counts_below shares n k below
-      | inr past ↦ (let same : k ≡ n = omega (arith, less, past) in
-          rw (same, get_or_push (counts_in shares n) (amount_of shares n) 0 n (counts_long shares n)))
-    ]
+    grind (arith, cases_lt, get_or_append_left, get_or_push, counts_long, counts_below shares n k)
 
 pub counts_tell : (shares : List Share) (many : ℕ) → AreAtEnds many shares → (k : ℕ)
     → amount_of shares k ≡ get_or (counts_in shares many) k 0
 counts_tell shares many at k = grind (arith, cases_lt, counts_below, amount_past, get_or_past, counts_long)
 
--- the shares up to one have its count more
-shared_more : (shares : List Share) (at : ℕ) (s : Share) → slice_get shares at ≡ Some s
-    → shared (take (at + 1) shares) ≡ shared (take at shares) + s.count
-shared_more shares at s here =
+-- the shares up to one add up to its number more
+sum_more : (f : Share → ℕ) (shares : List Share) (at : ℕ) (s : Share) → slice_get shares at ≡ Some s
+    → sum_by f (take (at + 1) shares) ≡ sum_by f (take at shares) + f s
+sum_more f shares at s here =
     rw (get_or_from_slice_get shares at s s here) at
-    (sum_by_more (λ (t : Share). t.count) shares at s (slice_get_within shares at s here))
+    (sum_by_more f shares at s (slice_get_within shares at s here))
 
--- and are no more than all of them
+-- and have no more schedules than all of them
 shared_more_le : (shares : List Share) (at : ℕ) (s : Share) → slice_get shares at ≡ Some s
     → shared (take at shares) + s.count ≤ shared shares
 shared_more_le shares at s here =
@@ -160,7 +151,7 @@ adds_more old mid new shares at s here so_far adds =
           omega (
             arith,
             so_far.total,
-            shared_more shares at s here,
+            sum_more (λ (t : Share). t.count) shares at s here,
             sum_by-set (λ (y : Ending). y.count) mid s.end adds.more adds.entry
                 (slice_get_within mid s.end adds.entry adds.here),
             ap (λ (y : Ending). y.count)
@@ -169,19 +160,22 @@ adds_more old mid new shares at s here so_far adds =
           );
     })
   where
-    step : (k : ℕ) → amount_of (take (at + 1) shares) k ≡ amount_of (take at shares) k + count_for k s
-    step k =
-        rw (get_or_from_slice_get shares at s s here) at
-        (sum_by_more (count_for k) shares at s (slice_get_within shares at s here))
-
     more : (k : ℕ) (e f : Ending) → slice_get old k ≡ Some e → slice_get (set mid s.end adds.more) k ≡ Some f
         → (f.outcome ≡ e.outcome) × (f.first.items ≡ e.first.items)
         × (f.count ≡ e.count + amount_of (take (at + 1) shares) k)
     more k e f h i =
         elim (get_set_cases mid s.end adds.more k f i) [
           | inl x ↦ own x.0 x.1
-          | inr x ↦ (let m = so_far.adds.more k e f h x.1 in
-              (m.0, m.1, omega (arith, m.2, step k, other_share s k (λ same. x.0 (sym same)))))
+          | inr x ↦ (let m = so_far.adds.more k e f h x.1 in (
+            m.0,
+            m.1,
+            omega (
+              arith,
+              m.2,
+              sum_more (count_for k) shares at s here,
+              other_share s k (λ same. x.0 (sym same)),
+            ),
+          ))
         ]
       where
         own : k ≡ s.end → adds.more ≡ f
@@ -191,7 +185,8 @@ adds_more old mid new shares at s here so_far adds =
             let m = so_far.adds.more k e adds.entry h (rw same adds.here) in (
               rw (← is, adds.outcome_is) m.0,
               rw (← is, adds.first) m.1,
-              rw (← is, adds.count_is, step k, own_share s k (sym same)) (omega (arith, m.2)),
+              rw (← is, adds.count_is, sum_more (count_for k) shares at s here, own_share s k (sym same))
+                  (omega (arith, m.2)),
             )
 
 -- they are the counts that they tell
@@ -210,7 +205,7 @@ pub left_more : (shares : List Share) (room left less at : ℕ) (s : Share) → 
     → left + shared (take at shares) ≡ room → s.count ≤ left → less ≡ left - s.count
     → less + shared (take (at + 1) shares) ≡ room
 left_more shares room left less at s here so_far fits is =
-    omega (arith, shared_more shares at s here)
+    omega (arith, sum_more (λ (t : Share). t.count) shares at s here)
 
 -- one that is too great is one of all
 pub none_left : (shares : List Share) (room left at : ℕ) (s : Share) → slice_get shares at ≡ Some s

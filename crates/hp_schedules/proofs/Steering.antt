@@ -1,5 +1,5 @@
 -- Positions with equal numbers: their scripts call the same after the same further receipts.
-use Rattle.std.proofs.Common.{◌≡◌, ℕ, zero, suc, ◌+◌, ◌<◌, true, false, cond, List, [], ◌∷◌, ◌++◌, drop, length, Some, slice_get, refl, sym, ◌∙◌, arith, inl, inr}
+use Rattle.std.proofs.Common.{◌≡◌, ℕ, zero, suc, ◌+◌, ◌<◌, true, false, cond, List, [], ◌∷◌, ◌++◌, drop, length, Some, slice_get, refl, sym, ◌∙◌, arith}
 use Rattle.std.specs.Prelude.{fold, option_map}
 use Rattle.std.proofs.lemmas.Bool.{and_parts, cases_Bool}
 use Rattle.std.proofs.lemmas.List.Sums.{fold-append}
@@ -29,7 +29,7 @@ use Rattle.hp_schedules.specs.declared.scripts.Step.{Step}
 use Rattle.hp_schedules.specs.declared.scripts.Step.TheVariants.{Ask, Own, Carry}
 use Rattle.hp_schedules.specs.declared.scripts.StepWork.{StepWork}
 use Rattle.hp_schedules.specs.declared.scripts.StepWork.TheVariants as work
-use Rattle.hp_schedules.proofs.Agreeing.{Agree, Agrees, all_named, all_named_long, drop_mergeable, frames_more, script_mergeable}
+use Rattle.hp_schedules.proofs.Agreeing.{Agree, Agrees, all_named, all_named_long, drop_passes, frames_more, script_mergeable}
 use Rattle.hp_schedules.proofs.RenumberedLines.{AgreeBy, AgreesBy, carried_alike, next_alike}
 
 -- ---- a driver
@@ -41,10 +41,6 @@ renumbered_stage f (Migrates op) = Migrates (f op)
 renumbered_stage f (Commits op) = Commits (f op)
 renumbered_stage f (Cancels op) = Cancels (f op)
 renumbered_stage f stage = stage
-
-abbrev renumbered_driver : (ℕ → ℕ) → Driver → Driver
-renumbered_driver f d =
-    record { cpus = d.cpus; left = d.left; why = d.why; stage = renumbered_stage f d.stage }
 
 stage_event : (f : ℕ → ℕ) (plan : List Item) (s : Stage)
     → option_map (renumbered_event f) (event_in plan s) ≡ event_in plan (renumbered_stage f s)
@@ -126,10 +122,7 @@ frames_alike p q [] [] same = refl
 frames_alike p q [] (s ∷ ys) same = absurd same
 frames_alike p q (r ∷ xs) [] same = absurd same
 frames_alike p q (r ∷ xs) (s ∷ ys) same =
-    rw (← takes) (elim (cases_Bool (takes_frame r.event)) [
-      | inl e ↦ rw (e, same.0.reply, frames_alike p q xs ys same.1)
-      | inr e ↦ rw e (frames_alike p q xs ys same.1)
-    ])
+    grind (arith, cases_Bool, takes, frames_alike p q xs ys same.1)
   where
     takes : takes_frame r.event ≡ takes_frame s.event
     takes =
@@ -204,11 +197,11 @@ steered_alike p q g cpu lines h k part xs ys here merges named first second are 
     let known = known_of (receipts_of cpu h ++ xs) in
     let other = known_of (receipts_of cpu k ++ ys) in
     let agree =
-    lines_agree p q known other (drop b.0.line lines) (drop_mergeable b.0.line lines merges)
+    lines_agree p q known other (drop b.0.line lines) (drop_passes is_mergeable_line b.0.line lines merges)
     (drop_named p q b.0.line lines named)
     (all_named (renumbered_known p known) (renumbered_known q other) (frames_of (receipts_of cpu h))
     (frames_of (receipts_of cpu k)) (frames_of xs) (drop b.0.line lines)
-    (drop_mergeable b.0.line lines merges) op (frames_more (receipts_of cpu h) xs)
+    (drop_passes is_mergeable_line b.0.line lines merges) op (frames_more (receipts_of cpu h) xs)
     (rw (frames_alike p q xs ys are) (frames_more (receipts_of cpu k) ys)) frames) in
     rw (a.1.ahead known xs, b.1.ahead other ys, line)
     (begun_alike p q g.layout.cpus known other (drop b.0.line lines) a.1.own b.1.own xs ys a.0.driver

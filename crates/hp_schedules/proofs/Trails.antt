@@ -1,10 +1,11 @@
 -- The trail: sums in place of shares, and the counts that it tells.
-use Rattle.std.proofs.Common.{◌≡◌, ℕ, ◌+◌, ◌<◌, ◌≤◌, Bool, true, false, List, [], ◌∷◌, ◌++◌, length, take, drop, set, cond, Some, nat_eq, slice_get, refl, ap, sym, subst, ◌∙◌, arith, inl, inr, length-drop}
+use Rattle.std.proofs.Common.{◌≡◌, ℕ, ◌+◌, ◌<◌, ◌≤◌, List, [], ◌∷◌, ◌++◌, length, take, drop, set, Some, slice_get, refl, ap, sym, subst, ◌∙◌, arith, inl, inr, zero, suc}
 use Rattle.std.specs.Prelude.{sum_by}
-use Rattle.std.proofs.lemmas.List.{drop-append-le, drop-set-lt, get_or-drop, get_or-take, get_or_past, length_push, length-set, length-take-le, take_all, take-take, take_more_set, take-set-le}
+use Rattle.std.proofs.lemmas.List.{drop-append-le, drop-set-lt, get_or-take, get_or_past, length_push, length-set, length-take-le, take_all, take-take, take_more_set, take-set-le}
 use Rattle.std.proofs.lemmas.List.Sums.{get_or-le-sum_by, sum_by-drop_more, sum_by_push, sum_by-set, sum_by-take-drop}
-use Rattle.std.proofs.lemmas.Option.{get_or_from_slice_get, slice_get_read, slice_get_within}
-use Rattle.hp_laws.proofs.Lists.{get_push_cases}
+use Rattle.std.proofs.lemmas.Option.{get_or_from_slice_get, slice_get_within}
+use Rattle.hp_laws.proofs.Lists.{get_push_cases, get_take}
+use Rattle.std.proofs.lemmas.Bool.{cases_Bool}
 use Rattle.hp_schedules.specs.Notes.{AddsEnd, TallyValue}
 use Rattle.hp_schedules.specs.Outcomes.{OutcomeValue}
 use Rattle.hp_schedules.specs.Shares.{AddsAt, AreAtEnds, amount_of, count_for}
@@ -21,12 +22,8 @@ count_of s = s.count
 pub counts_add_up : AddsUp (λ s. s.count)
 counts_add_up end a b = refl
 
-cond_adds : (c : Bool) (a b : ℕ) → cond c (a + b) 0 ≡ cond c a 0 + cond c b 0
-cond_adds true a b = refl
-cond_adds false a b = refl
-
 amounts_add_up : (k : ℕ) → AddsUp (count_for k)
-amounts_add_up k end a b = cond_adds (nat_eq end k) a b
+amounts_add_up k end a b = grind (arith, cases_Bool)
 
 -- ---- one share is added to the sums
 
@@ -158,7 +155,7 @@ gathered_all start at end old now new past short is all = subst (IsGathered star
         rw (take_all at now (omega (arith, past, all.long))) at (sum_by-take-drop f now at),
         all.same f adds,
       );
-  at_ends = λ many ends i s h. all.at_ends many ends i s (taken i s h);
+  at_ends = λ many ends i s h. all.at_ends many ends i s (get_take end now s i h).1;
 })
   where
     before : take start (take end now) ≡ take start old
@@ -166,13 +163,6 @@ gathered_all start at end old now new past short is all = subst (IsGathered star
 
     long : length (take end now) ≡ end
     long = length-take-le end now (omega (arith, short, all.long))
-
-    taken : (i : ℕ) (s : Share) → slice_get (take end now) i ≡ Some s → slice_get now i ≡ Some s
-    taken i s h =
-        let less = slice_get_within (take end now) i s h in
-        slice_get_read now (length now) i s refl (omega (arith, less, long, short, all.long))
-        (sym (sym (get_or-take end now i s (omega (arith, less, long)))
-        ∙ get_or_from_slice_get (take end now) i s s h))
 
 -- they give as much as before, with those that stay
 pub gathered_gives : (start : ℕ) (old new : List Share) (f : Share → ℕ) → AddsUp f
@@ -183,12 +173,10 @@ gathered_gives start old new f adds all =
 -- the later ones are of the same ends
 pub at_ends_drop : (many start : ℕ) (shares : List Share) → AreAtEnds many shares
     → AreAtEnds many (drop start shares)
-at_ends_drop many start shares at_ends i u h =
-    let less = slice_get_within (drop start shares) i u h in
-    at_ends (start + i) u
-    (slice_get_read shares (length shares) (start + i) u refl
-    (omega (arith, less, length-drop start shares))
-    (sym (sym (get_or-drop start shares i u) ∙ get_or_from_slice_get (drop start shares) i u u h)))
+at_ends_drop many zero shares at_ends i u h = at_ends i u h
+at_ends_drop many (suc start) [] at_ends i u h = absurd cc
+at_ends_drop many (suc start) (s ∷ shares) at_ends i u h =
+    at_ends_drop many start shares (λ j t. at_ends (suc j) t) i u h
 
 -- one share more is of an end that there is, and what they give is counted
 pub trail_pushed : (trail new : List Share) (one : Share) (many more total later : ℕ)
@@ -225,15 +213,7 @@ keeps_at old new at count adds is = record {
       rw (adds.new_is, is, drop-append-le s old.trail (one ∷ []) le) (record {
         at_ends =
             rw length-set (at_ends_push (drop s old.trail) one (length old.ends) within was.at_ends);
-        each = λ k f h.
-            elim (get_set_cases old.ends at adds.more k f h) [
-              | inl x ↦
-                  rw (← x.1, adds.count_is, amount_push, own_share one k (sym x.0))
-                  (omega (arith, was.each k adds.entry (rw x.0 adds.here)))
-              | inr x ↦
-                  rw (amount_push, other_share one k (λ same. x.0 (sym same)))
-                  (omega (arith, was.each k f x.1))
-            ];
+        each = λ k f h. grind (arith, get_set_cases, amount_push, own_share, other_share, was.each);
       });
 }
   where
@@ -257,15 +237,18 @@ keeps_end old new x schedule adds is = record {
             (at_ends_more (drop s old.trail) (length old.ends) (length old.ends + 1) (omega arith)
             was.at_ends));
         each = λ k f h.
-            elim (get_push_cases old.ends adds.entry f k h) [
-              | inl there ↦ (let less = slice_get_within old.ends k f there in
-                  rw (amount_push, other_share one k (λ same. omega (arith, same, less)))
-                  (omega (arith, was.each k f there)))
-              | inr here ↦ (let past = get_or_past earlier k 0 (omega (arith, short, here.0)) in
-                  let none =
-                  amount_past (drop s old.trail) (length old.ends) k was.at_ends (omega (arith, here.0)) in
-                  rw (← here.1, adds.count, amount_push, own_share one k (sym here.0), past, none))
-            ];
+            let none = amount_past (drop s old.trail) (length old.ends) k was.at_ends in
+            grind (
+              arith,
+              get_push_cases,
+              amount_push,
+              own_share,
+              other_share,
+              was.each,
+              get_or_past,
+              none,
+              slice_get_within,
+            );
       });
 }
   where

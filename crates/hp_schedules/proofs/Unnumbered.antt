@@ -1,6 +1,6 @@
 -- What lines ask for does not depend on their receipts' serials, but for the results that they work
 -- on.
-use Rattle.std.proofs.Common.{◌≡◌, ℕ, true, get_or, ltb, List, [], ◌∷◌, ◌++◌, map, Option, Some, None, inl, inr, refl, subst}
+use Rattle.std.proofs.Common.{◌≡◌, ℕ, true, get_or, ltb, List, [], ◌∷◌, ◌++◌, map, Option, Some, None, inl, inr, refl, subst, arith}
 use Rattle.std.specs.Prelude.{option_map}
 use Rattle.std.specs.List.{last_or, list_all}
 use Rattle.std.proofs.lemmas.Bool.{and_parts}
@@ -77,22 +77,16 @@ line_same cpus known (Carry plan turns) rs = driver_same cpus turns plan rs
 rest_same : (cpus : ℕ) (known : Known) (line : Step) (earlier later : List Receipt)
     → after_line cpus known line (plain earlier) (plain later)
     ≡ option_map plain (after_line cpus known line earlier later)
-rest_same cpus known line earlier [] =
-    rw (line_same cpus known line earlier)
-    (elim (cases_option (line_next cpus known line earlier)) [ inl none ↦ rw none | inr e ↦ rw e.1 ])
+rest_same cpus known line earlier [] = grind (arith, cases_option, line_same)
 rest_same cpus known line earlier (r ∷ rs) =
-    rw (line_same cpus known line earlier, ← map-append unnumbered earlier (r ∷ []))
-    (elim (cases_option (line_next cpus known line earlier))
-    [ inl none ↦ rw none | inr e ↦ rw e.1 (rest_same cpus known line (earlier ++ r ∷ []) rs) ])
+    grind (arith, cases_option, line_same, map-append, rest_same cpus known line (earlier ++ r ∷ []) rs)
 
 -- what lines ask for
 pub next_plain : (cpus : ℕ) (known : Known) (lines : List Step) (rs : List Receipt)
     → next_in cpus known lines (map unnumbered rs) ≡ next_in cpus known lines rs
 next_plain cpus known [] rs = refl
 next_plain cpus known (line ∷ lines) rs =
-    rw (rest_same cpus known line [] rs, line_same cpus known line rs)
-    (elim (cases_option (after_line cpus known line [] rs))
-    [ inl none ↦ rw none | inr rest ↦ rw rest.1 (next_plain cpus known lines rest.0) ])
+    grind (arith, cases_option, rest_same cpus known line [], line_same, next_plain cpus known lines)
 
 -- ---- no line undoes anything by serials
 

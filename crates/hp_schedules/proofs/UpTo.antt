@@ -1,10 +1,12 @@
 -- The answers up to a cursor.
-use Rattle.std.proofs.Common.{◌≡◌, ℕ, zero, suc, ◌+◌, ◌≤◌, Bool, true, false, cond, List, [], ◌∷◌, ◌++◌, length, take, drop, Option, Some, None, slice_get, refl, ◌∙◌, arith}
+use Rattle.std.proofs.Common.{◌≡◌, ℕ, ◌+◌, ◌≤◌, Bool, true, false, cond, List, [], ◌∷◌, ◌++◌, length, take, drop, Option, Some, None, slice_get, refl, ◌∙◌, arith}
 use Rattle.std.specs.Prelude.{option_map}
 use Rattle.std.proofs.lemmas.List.{append-nil, length-append, length-take-le, take-append-drop}
 use Rattle.std.proofs.Math.ListN.{drop_of_length-le}
 use Rattle.hp_ops.specs.Stages.{MovesOn, end_in, is_over}
 use Rattle.hp_units.specs.declared.replies.Receipt.{Receipt}
+use Rattle.std.proofs.lemmas.Bool.{cases_lt}
+use Rattle.std.proofs.lemmas.Option.{slice_get_cases}
 use Rattle.hp_schedules.specs.Cursors.{IsCursor, IsInFirst, IsSettled, carries, has_carried}
 use Rattle.hp_schedules.specs.Interleavings.{is_one_call}
 use Rattle.hp_schedules.specs.LineAnswers.{answers_in}
@@ -16,7 +18,7 @@ use Rattle.hp_schedules.specs.declared.scripts.Step.{Step}
 use Rattle.hp_schedules.specs.declared.scripts.Step.TheVariants.{Ask, Own, Carry}
 use Rattle.hp_schedules.proofs.Asked.{at_first, lines_here, own_over, plan_on}
 use Rattle.hp_schedules.proofs.Begun.{asks_none, asks_some, begun_after}
-use Rattle.hp_schedules.proofs.LineAnswers.{answers_many, answers_past, first_on, first_over, none_begun, without_is}
+use Rattle.hp_schedules.proofs.LineAnswers.{answers_many, answers_past, none_begun, without_is}
 
 -- ---- a cursor that a call moved
 
@@ -53,19 +55,15 @@ by_own cpus (Carry plan turns) lines own c first = by_end (is_over c.driver.stag
         → answers_in cpus (Carry plan turns ∷ lines) own
         ≡ cond b (option_map Carried (end_in c.driver.stage) ∷ []) []
     by_end true over =
-        first_over cpus (Carry plan turns) lines own []
-        (own_over cpus nothing_known [] (Carry plan turns) lines own c first
+        rw (own_over cpus nothing_known [] (Carry plan turns) lines own c first
         (asks_none c.driver.stage plan over))
-        ∙ rw (none_begun cpus lines, rw append-nil at (without_is own []), first.0.end)
+        (rw (none_begun cpus lines, rw append-nil at (without_is own []), first.0.end))
     by_end false on =
         let next = asks_some c.driver.stage plan on in
-        first_on cpus (Carry plan turns) lines own
-        (plan_on cpus turns nothing_known plan lines own c.driver next.0 first next.1)
+        rw (plan_on cpus turns nothing_known plan lines own c.driver next.0 first next.1)
 
 pub past_end : (lines : List Step) (k : ℕ) → slice_get lines k ≡ None → length lines ≤ k
-past_end [] k none = omega arith
-past_end (l ∷ lines) zero none = absurd cc
-past_end (l ∷ lines) (suc k) none = let le = past_end lines k none in omega (arith, le)
+past_end lines k none = grind (arith, cases_lt, slice_get_cases)
 
 -- those of the lines before it, and that of its own line
 abbrev pub before : (cpus : ℕ) → List Step → List Receipt → Cursor → List (Option LineAnswer)
@@ -98,11 +96,6 @@ pub many_finished : (cpus : ℕ) (lines : List Step) (receipts : List Receipt) (
 many_finished cpus lines receipts c o here is =
     rw (up_to cpus lines receipts c o here is, length-append)
     (rw (before_many cpus lines receipts c.line is.own is.within (is.passed nothing_known)))
-
-pub finished_past : (cpus : ℕ) (lines : List Step) (receipts : List Receipt) (c : Cursor)
-    → slice_get lines c.line ≡ None → IsCursor cpus lines receipts c
-    → c.line ≡ length (answers_in cpus lines receipts)
-finished_past cpus lines receipts c here is = omega (arith, many_finished cpus lines receipts c None here is)
 
 pub finished_here : (cpus : ℕ) (lines : List Step) (receipts : List Receipt) (c : Cursor) (line : Step)
     (over : Bool)

@@ -136,6 +136,11 @@ named_in (Ask event) = named_by event
 named_in (Own work) = 0
 named_in (Carry plan turns) = 0
 
+-- the line does not free the frame of an earlier KernelAlloc
+abbrev pub names_no_frame : Step → Bool
+names_no_frame (Own (Free nth)) = false
+names_no_frame line = true
+
 -- the greater of two numbers
 abbrev pub greater : ℕ → ℕ → ℕ
 greater n m = if nat_lt n m then m else n

@@ -6,9 +6,9 @@ ghost use Rattle.hp_units.specs.declared.events.Event.{Event as AnyEvent};
 ghost use Rattle.hp_units.specs.declared.replies.Receipt.{Receipt};
 ghost use Rattle.hp_laws.specs.Numberings.{number_of};
 ghost use Rattle.hp_schedules.specs.Causes.{cause_in};
-ghost use Rattle.hp_schedules.specs.Cursors.{IsAsked, IsCursor, IsRequested, IsSettled, asks, asks_at, carried, cursor_at, driver_before, first_driver, frames_ahead, frames_named, is_carrying, steering_of};
+ghost use Rattle.hp_schedules.specs.Cursors.{IsAsked, IsCursor, IsRequested, IsSettled, asks, asks_at, carried, cursor_at, driver_before, first_driver, frames_ahead, is_carrying, steering_of};
 ghost use Rattle.hp_schedules.specs.LineAnswers.{IsAnswered, answers_in};
-ghost use Rattle.hp_schedules.specs.Scripts.{frames_of, next_of};
+ghost use Rattle.hp_schedules.specs.Scripts.{next_of};
 
 use crate::line_answers::{FinishedLine, LineAnswer, plan_answer};
 use crate::results::{frame_count, nth_frame};
@@ -136,8 +136,9 @@ impl Cursor {
         ])
     }
 
-    /// Appends the numbers of `push_named` for each line, from the cursor's line on. Returns
-    /// whether each number fits 32 bits; if one does not, the numbers from its line on are missing.
+    /// For each line, from the cursor's on, that frees the frame of an earlier KernelAlloc, appends
+    /// how many KernelAllocs the processor has made, and that frame. Returns whether each number
+    /// fits 32 bits; if one does not, the numbers from its line on are missing.
     pub(crate) fn push_frames(
         &self,
         lines: &[Step],
@@ -149,9 +150,14 @@ impl Cursor {
             ≡ numbers.old.items ++ frames_ahead self.now lines.now (receipts_of cpu news.now)) }
     {
         for place in self.line..lines.len() {
-            if !push_named(&lines[place], news, cpu, numbers)? {
+            let Step::Own(OwnWork::Free { nth }) = &lines[place] else {
+                continue;
+            };
+            let Ok(count) = u32::try_from(frame_count(news, cpu)) else {
                 return Ok(false);
-            }
+            };
+            numbers.push(count)?;
+            numbers.push(nth_frame(news, cpu, *nth).0)?;
         }
         Ok(true)
     }
@@ -262,29 +268,6 @@ impl Cursor {
             answer: plan_answer(self.driver.ended()),
         })
     }
-}
-
-/// If the line frees the frame of an earlier KernelAlloc, appends how many KernelAllocs the
-/// processor has made, and that frame. Returns whether each number fits 32 bits; if not, appends
-/// nothing.
-fn push_named(
-    line: &Step,
-    news: &[Record],
-    cpu: Cpu,
-    numbers: &mut Vec<u32>,
-) -> Result<bool, AllocError>
-    ensures { IfOk result (λ fit. fit ≡ true → numbers.new.items
-        ≡ numbers.old.items ++ frames_named (frames_of (receipts_of cpu news.now)) line.now) }
-{
-    let Step::Own(OwnWork::Free { nth }) = line else {
-        return Ok(true);
-    };
-    let Ok(count) = u32::try_from(frame_count(news, cpu)) else {
-        return Ok(false);
-    };
-    numbers.push(count)?;
-    numbers.push(nth_frame(news, cpu, *nth).0)?;
-    Ok(true)
 }
 
 /// Returns the driver at the beginning of a line, or an unused one if there is no such line.

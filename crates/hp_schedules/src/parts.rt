@@ -112,17 +112,8 @@ fn number_of(first: &[Record], processors: u32, of: u32) -> u64
 {
     let mut number = 0;
     for record in first {
-        number = with_digit(number, processors, record.cpu.0, of);
+        let cpu = u64::from(record.cpu.0);
+        number = (number * u64::from(processors) + cpu) % u64::from(of);
     }
     number
-}
-
-/// Returns the number with one more digit, modulo the number of parts.
-fn with_digit(number: u64, base: u32, digit: u32, of: u32) -> u64
-    requires some { 0 < of }
-    requires below { number < of }
-    ensures is { result ≡ (number * base + digit) % of }
-    ensures below { result < of }
-{
-    (number * u64::from(base) + u64::from(digit)) % u64::from(of)
 }

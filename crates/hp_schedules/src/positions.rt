@@ -144,7 +144,7 @@ impl Positions {
             };
             numbers.push(number)?;
         }
-        cursor.push_frames(scripts[place].lines(), news, Cpu(cpu), numbers)
+        cursor.push_frames(scripts[place].freeing_lines(), news, Cpu(cpu), numbers)
     }
 
     /// Appends the last refusal of a migration or a commit in the processor's plan in progress, as

@@ -1,11 +1,12 @@
 //! Scripts: what each processor calls, one line after another.
-ghost use Rattle.std.specs.Prelude.{◌≡◌, cond, length};
+ghost use Rattle.std.specs.Prelude.{◌≡◌, ◌≤◌, ℕ, true, List, cond, drop, flat_map, length};
 ghost use Rattle.std.specs.List.{list_all};
 ghost use Rattle.hp_units.specs.Marks.{is_opening, mark_of};
 ghost use Rattle.hp_units.specs.Receipts.{receipts_of};
 ghost use Rattle.hp_schedules.specs.Alike.{is_mergeable, is_mergeable_line};
+ghost use Rattle.hp_schedules.specs.Cursors.{frames_named};
 ghost use Rattle.hp_schedules.specs.Interleavings.{holds_no_plan, is_one_call};
-ghost use Rattle.hp_schedules.specs.Scripts.{greatest_in, greatest_named, known_with, named_in, step_work_of, work_of};
+ghost use Rattle.hp_schedules.specs.Scripts.{greatest_in, greatest_named, known_with, named_in, names_no_frame, step_work_of, work_of};
 
 use crate::results::{nth_begun, nth_frame};
 use hp_units::{Cpu, Event, Plan, Record, Serial, mark_of};
@@ -54,15 +55,22 @@ pub enum Step {
 #[derive(Drop)]
 pub struct CallScript {
     lines: Vec<Step>,
+    /// No line from this one on frees the frame of an earlier KernelAlloc.
+    freeing: usize,
 }
 
 impl Model for CallScript {
-    ghost use Rattle.std.specs.Prelude.{List};
+    ghost use Rattle.std.specs.Prelude.{◌≡◌, ◌≤◌, List, true, drop, length};
+    ghost use Rattle.std.specs.List.{list_all};
+    ghost use Rattle.hp_schedules.specs.Scripts.{names_no_frame};
     ghost use Rattle.hp_schedules.specs.declared.scripts.Step.{Step};
 
     ghost Value = { List Step };
 
     ghost view = { λ s. s.lines.items };
+
+    ghost invariant = { λ s. (s.freeing ≤ length s.lines.items)
+        × (list_all names_no_frame (drop s.freeing s.lines.items) ≡ true) };
 }
 
 impl StepWork {
@@ -139,7 +147,8 @@ impl CallScript {
     pub fn new(lines: Vec<Step>) -> Self
         ensures { result ≡ lines.items }
     {
-        CallScript { lines }
+        let freeing = freeing_count(lines.as_slice());
+        CallScript { lines, freeing }
     }
 
     /// Returns how many lines the script has.
@@ -155,6 +164,15 @@ impl CallScript {
     {
         let lines = &self.lines;
         lines.as_slice()
+    }
+
+    /// Returns the lines up to the last that frees the frame of an earlier KernelAlloc.
+    pub(crate) fn freeing_lines(&self) -> &[Step]
+        ensures { (frames : List ℕ) (k : ℕ) → flat_map (frames_named frames) (drop k result.now)
+            ≡ flat_map (frames_named frames) (drop k self.now) }
+    {
+        let lines = &self.lines;
+        &lines.as_slice()[..self.freeing]
     }
 
     /// Returns the greatest operation that a line names by its number, or `least` if that is
@@ -196,6 +214,20 @@ impl CallScript {
         }
         true
     }
+}
+
+/// Returns how many lines there are up to the last that frees the frame of an earlier KernelAlloc,
+/// or 0 if there is none.
+fn freeing_count(lines: &[Step]) -> usize
+    ensures within { result ≤ length lines.now }
+    ensures rest { list_all names_no_frame (drop result lines.now) ≡ true }
+{
+    for place in (0..lines.len()).rev() {
+        if matches!(lines[place], Step::Own(OwnWork::Free { .. })) {
+            return place + 1;
+        }
+    }
+    0
 }
 
 /// Returns the operation that the processor began last, after one more call: `serial` if `event` is

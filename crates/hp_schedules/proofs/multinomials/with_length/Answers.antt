@@ -1,8 +1,8 @@
 -- One turn more multiplies the coefficient by the number of all turns, and divides it by that of
 -- the processor's.
-use Rattle.std.proofs.Common.{arith}
+use Rattle.std.proofs.Common.{arith, ◌≡◌}
 use Rattle.std.proofs.lemmas.Nat.{mul-lt}
-use Rattle.hp_schedules.proofs.Coefficients.{with_ended, with_exceeded, with_next, with_none}
+use Rattle.hp_schedules.proofs.Coefficients.{with_exceeded, with_next, with_none}
 use Rattle.hp_schedules.proofs.multinomials.with_length.Goals as goal
 
 pub loop-turn-init : goal.loop-turn-init
@@ -36,5 +36,4 @@ loop-turn-preserved c =
 
 pub returns-clause-some : goal.returns-clause-some
 returns-clause-some c =
-    with_ended c.args.count c.args.total c.args.length c.loop-turn.turn c.loop-turn.reached (omega arith)
-    c.loop-turn.invariant.coefficient
+    let all : c.loop-turn.turn ≡ c.args.length = omega arith in rw (← all) c.loop-turn.invariant.coefficient

@@ -2,13 +2,15 @@
 use Rattle.std.proofs.Common.{◌≡◌, ◌∙◌, false, true, length, refl, sym, arith}
 use Rattle.std.proofs.lemmas.Bool.{iff_false}
 use Rattle.std.proofs.lemmas.Option.{slice_get_read}
-use Rattle.hp_schedules.proofs.Compared.{answered_at, answered_length, answered_more}
+use Rattle.std.proofs.lemmas.List.FromFn.{length-map-range_with_len}
+use Rattle.hp_schedules.proofs.Compared.{answered_at, answered_more}
 use Rattle.hp_schedules.proofs.outcomes.are_answers_below.Goals as goal
 
 pub returns-then-answers-processors : goal.returns-then-answers-processors
 returns-then-answers-processors c = (
   λ wrong. absurd (let f : false ≡ true = wrong in cc),
-  λ is. absurd (let as_many = answered_length c.args.answers.now c.args.records.now c.args.processors is in
+  λ is. absurd (let as_many : length c.args.answers.now ≡ c.args.processors =
+      rw (is, length-map-range_with_len) in
       omega (arith, as_many, c.if-answers-processors.true)),
 )
 

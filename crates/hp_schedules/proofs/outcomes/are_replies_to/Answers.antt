@@ -1,5 +1,5 @@
 -- A record of the processor tells the next reply.
-use Rattle.std.proofs.Common.{◌∙◌, length, refl, sym, arith}
+use Rattle.std.proofs.Common.{◌∙◌, refl, sym, arith}
 use Rattle.std.proofs.lemmas.Bool.{iff_false}
 use Rattle.std.proofs.lemmas.Option.{slice_get_read, slice_get_within}
 use Rattle.hp_schedules.proofs.Compared.{told_here, told_more, told_past}
@@ -12,16 +12,13 @@ returns-then-not-is_told_at c = (
   λ is. absurd (iff_false c.is_told_at.ensures c.if-not-is_told_at.true
       (told_here c.args.cpu c.args.replies.now c.args.records.now c.loop-record.compared
       c.loop-record.record-index c.record-item.result
-      (slice_get_read c.args.records.now (length c.args.records.now) c.loop-record.record-index
-      c.record-item.result refl c.loop-record-test.true c.record-item.is)
+      (slice_get_read _ _ _ _ refl c.loop-record-test.true c.record-item.is)
       (sym c.eq.ensures ∙ c.if-eq.true) c.loop-record.invariant.1 c.loop-record.invariant.0 is)),
 )
 
 pub loop-record-preserved : goal.loop-record-preserved
 loop-record-preserved c =
-    let here =
-    slice_get_read c.args.records.now (length c.args.records.now) c.loop-record.record-index
-    c.record-item.result refl c.loop-record-test.true c.record-item.is in
+    let here = slice_get_read _ _ _ _ refl c.loop-record-test.true c.record-item.is in
     elim c.if-eq.branch [
       | then-eq+else-not-is_told_at w ↦
           let told_next = w.is_told_at.ensures.0 w.if-not-is_told_at.false in

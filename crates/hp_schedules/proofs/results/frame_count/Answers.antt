@@ -15,9 +15,6 @@ frame_of r = frame_in r.reply
 abbrev takes : Receipt → Bool
 takes r = takes_frame r.event
 
-pub loop-call-init : goal.loop-call-init
-loop-call-init c = (omega arith, omega arith)
-
 pub loop-call-preserved : goal.loop-call-preserved
 loop-call-preserved c = elim c.if-takes_frame.branch [
   | then-takes_frame w ↦

@@ -1,5 +1,5 @@
 -- One call after another.
-use Rattle.std.proofs.Common.{Bool, ◌+◌, ◌≤◌, ◌∙◌, ℕ, arith, drop, false, length, refl, sym, true}
+use Rattle.std.proofs.Common.{Bool, ◌+◌, ◌≤◌, ◌∙◌, ℕ, arith, drop, false, length, sym, true}
 use Rattle.std.proofs.Math.ListN.{drop_of_length-le}
 use Rattle.hp_units.specs.Marks.{is_opening, mark_of}
 use Rattle.hp_units.specs.declared.replies.Receipt.{Receipt}
@@ -12,15 +12,10 @@ serial_of r = r.serial
 abbrev opens : Receipt → Bool
 opens r = is_opening (mark_of r.event)
 
-pub loop-call-init : goal.loop-call-init
-loop-call-init c = refl
-
 pub loop-call-preserved-then-not-begins : goal.loop-call-preserved-then-not-begins
 loop-call-preserved-then-not-begins c =
-    let here =
-    shown_at serial_of opens c.args.cpu c.args.news.now c.loop-call.call-index c.call-item.result false
-    c.loop-call-test.true c.call-item.is (sym c.begins.ensures ∙ c.if-not-begins.true) in
-    rw here at c.loop-call.invariant
+    rw (shown_at serial_of opens _ _ _ _ false c.loop-call-test.true c.call-item.is
+    (sym c.begins.ensures ∙ c.if-not-begins.true)) at c.loop-call.invariant
 
 pub returns-then-left-eq0 : goal.returns-then-left-eq0
 returns-then-left-eq0 c =

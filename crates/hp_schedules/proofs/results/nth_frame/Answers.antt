@@ -1,5 +1,5 @@
 -- One call after another.
-use Rattle.std.proofs.Common.{Bool, ◌+◌, ◌≤◌, ◌∙◌, ℕ, arith, drop, false, length, refl, sym, true}
+use Rattle.std.proofs.Common.{Bool, ◌+◌, ◌≤◌, ◌∙◌, ℕ, arith, drop, false, length, sym, true}
 use Rattle.std.proofs.Math.ListN.{drop_of_length-le}
 use Rattle.hp_units.specs.declared.replies.Receipt.{Receipt}
 use Rattle.hp_schedules.specs.Scripts.{frame_in, no_frame, takes_frame}
@@ -12,15 +12,10 @@ frame_of r = frame_in r.reply
 abbrev takes : Receipt → Bool
 takes r = takes_frame r.event
 
-pub loop-call-init : goal.loop-call-init
-loop-call-init c = refl
-
 pub loop-call-preserved-then-not-takes_frame : goal.loop-call-preserved-then-not-takes_frame
 loop-call-preserved-then-not-takes_frame c =
-    let here =
-    shown_at frame_of takes c.args.cpu c.args.news.now c.loop-call.call-index c.call-item.result false
-    c.loop-call-test.true c.call-item.is (sym c.takes_frame.ensures ∙ c.if-not-takes_frame.true) in
-    rw here at c.loop-call.invariant
+    rw (shown_at frame_of takes _ _ _ _ false c.loop-call-test.true c.call-item.is
+    (sym c.takes_frame.ensures ∙ c.if-not-takes_frame.true)) at c.loop-call.invariant
 
 pub returns-then-left-eq0 : goal.returns-then-left-eq0
 returns-then-left-eq0 c =

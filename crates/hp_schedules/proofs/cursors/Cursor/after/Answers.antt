@@ -1,5 +1,5 @@
 -- A line of one call is over; a plan goes on by its driver.
-use Rattle.std.proofs.Common.{◌+◌, ◌∙◌, ap, length, refl, sym}
+use Rattle.std.proofs.Common.{◌+◌, ◌∙◌, ap, refl, sym}
 use Rattle.std.proofs.lemmas.Option.{slice_get_read}
 use Rattle.hp_units.specs.Receipts.{receipt_of}
 use Rattle.hp_schedules.specs.Cursors.{cursor_at}
@@ -12,8 +12,7 @@ returns-then-is_one_call-clause-moved c =
     λ receipts event is asked.
     answered_new c.args.cpus c.args.lines.now receipts c.args.self.now c.new.result
     c.in-Some.line.now (receipt_of c.args.latest.now)
-    (slice_get_read c.args.lines.now (length c.args.lines.now) c.args.self.now.line c.in-Some.line.now refl
-    c.in-Some.ensures.lookup.3.0 c.in-Some.ensures.lookup.1)
+    (slice_get_read _ _ _ _ refl c.in-Some.ensures.lookup.3.0 c.in-Some.ensures.lookup.1)
     (sym c.is_one_call.ensures ∙ c.if-is_one_call.true)
     (c.new.ensures
     ∙ ap (cursor_at c.args.cpus c.args.lines.now (c.args.self.now.line + 1)) c.later_operation-op.ensures)
@@ -23,8 +22,7 @@ pub returns-clause-moved : goal.returns-clause-moved
 returns-clause-moved c =
     λ receipts event is asked. answered_run c.args.cpus c.args.lines.now receipts c.args.self.now
     _ c.in-Some.line.now (receipt_of c.args.latest.now) event
-    (slice_get_read c.args.lines.now (length c.args.lines.now) c.args.self.now.line c.in-Some.line.now refl
-    c.in-Some.ensures.lookup.3.0 c.in-Some.ensures.lookup.1)
+    (slice_get_read _ _ _ _ refl c.in-Some.ensures.lookup.3.0 c.in-Some.ensures.lookup.1)
     (sym c.is_one_call.ensures ∙ c.if-is_one_call.false) asked refl c.later_operation-op.ensures
     c.answer.ensures is
 
@@ -36,6 +34,5 @@ returns-clause-settled c =
       op = c.later_operation-op.result;
       driver = c.answer.new.self;
     }) c.in-Some.line.now (receipt_of c.args.latest.now)
-    (slice_get_read c.args.lines.now (length c.args.lines.now) c.args.self.now.line c.in-Some.line.now refl
-    c.in-Some.ensures.lookup.3.0 c.in-Some.ensures.lookup.1)
+    (slice_get_read _ _ _ _ refl c.in-Some.ensures.lookup.3.0 c.in-Some.ensures.lookup.1)
     (sym c.is_one_call.ensures ∙ c.if-is_one_call.false) refl c.answer.ensures is

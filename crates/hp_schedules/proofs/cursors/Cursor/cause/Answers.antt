@@ -1,14 +1,17 @@
 -- What the cursor's line met.
 use Rattle.std.proofs.Common.{◌∙◌, refl, sym}
-use Rattle.std.proofs.lemmas.Option.{slice_get_past, slice_get_read}
-use Rattle.hp_schedules.proofs.CausesAt.{cause_here, cause_past_end}
+use Rattle.std.proofs.lemmas.Option.{slice_get_read}
+use Rattle.std.proofs.Math.ListN.{drop_of_length-le}
+use Rattle.hp_schedules.proofs.CausesAt.{cause_here, cause_from}
 use Rattle.hp_schedules.proofs.cursors.Cursor.cause.Goals.{then-is_one_call-via-then-is_one_call, then-is_one_call-via-else-is_one_call+then-is_over}
 use Rattle.hp_schedules.proofs.cursors.Cursor.cause.Goals as goal
 
 pub returns-in_default : goal.returns-in_default
 returns-in_default c =
-    λ cpus receipts is. cause_past_end cpus c.args.lines.now receipts c.args.self.now
-    (slice_get_past c.args.lines.now c.args.self.now.line c.in_default.ensures.lookup.3) is
+    λ cpus receipts is. rw (
+      cause_from cpus c.args.lines.now receipts c.args.self.now is,
+      drop_of_length-le c.args.lines.now c.in_default.ensures.lookup.3,
+    )
 
 pub returns-then-is_one_call : goal.returns-then-is_one_call
 returns-then-is_one_call c =

@@ -6,6 +6,6 @@ use Rattle.hp_schedules.proofs.positions.Positions.finished.Goals as goal
 
 pub returns : goal.returns
 returns c =
-    λ g news scripts all. finished_at g c.args.cpu news c.args.scripts.now _ _ _ _ c.finished.result scripts
-    (slice_get_read _ _ _ _ refl c.requires.scripts c.index-scripts-place.is) c.lines.ensures
+    λ g news scripts all. finished_at g c.args.cpu news c.lines.result.now _ _ c.finished.result
+    (rw (scripts, c.lines.ensures) (slice_get_read _ _ _ _ refl c.requires.scripts c.index-scripts-place.is))
     (slice_get_read _ _ _ _ refl c.requires.cursors c.index.ensures) all c.finished.ensures

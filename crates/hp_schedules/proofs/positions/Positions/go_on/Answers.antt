@@ -12,8 +12,8 @@ returns-clause-back c =
 pub returns-clause-later : goal.returns-clause-later
 returns-clause-later c =
     λ g news scripts cpus all called. went_on g news c.args.latest.now c.args.cpus c.args.cpu
-    c.args.scripts.now _ _ _ _ c.after-later.result c.args.request.now scripts cpus c.requires.whose
-    (slice_get_read _ _ _ _ refl c.requires.scripts c.index-scripts-place.is) c.lines.ensures
+    c.lines.result.now _ _ c.after-later.result c.args.request.now cpus c.requires.whose
+    (rw (scripts, c.lines.ensures) (slice_get_read _ _ _ _ refl c.requires.scripts c.index-scripts-place.is))
     (λ receipts event is asked. (
       c.after-later.ensures.moved receipts event is asked,
       c.after-later.ensures.settled receipts event is asked,

@@ -13,8 +13,9 @@ returns c =
       cause_numbers c.cause-cause.result,
       items,
       two_numbers c.cause-cause.result,
-      λ g news scripts all. caused_at g c.args.cpu news c.args.scripts.now _ _ _ _ c.cause-cause.result
-          scripts (slice_get_read _ _ _ _ refl c.requires.scripts c.index-scripts-place.is) c.lines.ensures
+      λ g news scripts all. caused_at g c.args.cpu news c.lines.result.now _ _ c.cause-cause.result
+          (rw (scripts, c.lines.ensures)
+          (slice_get_read _ _ _ _ refl c.requires.scripts c.index-scripts-place.is))
           (slice_get_read _ _ _ _ refl c.requires.cursors c.index.ensures) all c.cause-cause.ensures,
     ))
     (extended c.extend_from_slice.result c.args.numbers.now.items c.extend_from_slice.new.self.items

@@ -20,11 +20,12 @@ returns c =
     IfOk-weaker c.push_frames.result _ _
     (λ fit adds all. (
       steering_of f c.index-cursor.result.now
-          ++ frames_ahead c.index-cursor.result.now c.lines.result.now
+          ++ frames_ahead c.index-cursor.result.now c.freeing_lines.result.now
           (receipts_of c.args.cpu c.args.news.now),
       rw (five, append_assoc) at (adds all),
-      λ g scripts at. steered_at f g c.args.news.now c.args.cpu c.args.scripts.now _ _ _ _ scripts
-          (slice_get_read _ _ _ _ refl c.requires.scripts c.index-scripts-place.is) c.lines.ensures
+      λ g scripts at. steered_at f g c.args.news.now c.args.cpu c.index-scripts-place.result _ _ _
+          (rw scripts (slice_get_read _ _ _ _ refl c.requires.scripts c.index-scripts-place.is))
+          c.freeing_lines.ensures
           (slice_get_read _ _ _ _ refl c.requires.cursors c.index-cursor.ensures) at,
     ))
     c.push_frames.ensures

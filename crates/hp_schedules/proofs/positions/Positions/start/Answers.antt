@@ -1,10 +1,10 @@
 -- Each cursor is where its script begins.
-use Rattle.hp_schedules.proofs.Placed.{all_begun, many_begun}
+use Rattle.std.proofs.lemmas.List.{length-map}
+use Rattle.hp_schedules.proofs.Placed.{all_begun}
 use Rattle.hp_schedules.proofs.positions.Positions.start.Goals as goal
 
 pub returns-clause-many : goal.returns-clause-many
-returns-clause-many c =
-    many_begun c.args.cpus c.args.scripts.now c.in_ok-cursors.cursors.items c.in_ok-cursors.ensures
+returns-clause-many c = rw (c.in_ok-cursors.ensures, length-map)
 
 pub returns-clause-begun : goal.returns-clause-begun
 returns-clause-begun c =

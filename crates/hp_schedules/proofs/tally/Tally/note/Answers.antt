@@ -1,5 +1,5 @@
 -- The end at its place counts one more, or an end is added.
-use Rattle.std.proofs.Common.{arith, inl, inr}
+use Rattle.std.proofs.Common.{inl, inr}
 use Rattle.std.proofs.lemmas.Option.{slice_get_within}
 use Rattle.std.proofs.lemmas.Result.{on_ok_weaker}
 use Rattle.hp_schedules.specs.Outcomes.{outcome_with}
@@ -15,9 +15,6 @@ add_at-requires-clause-place c =
     let at = c.in-Some.ensures.some in
     slice_get_within c.args.self.now.ends c.in-Some.place at.0 at.1
 
-pub add_at-requires-clause-room : goal.add_at-requires-clause-room
-add_at-requires-clause-room c = omega (arith, c.requires)
-
 pub returns-in-Some-clause-ok : goal.returns-in-Some-clause-ok
 returns-in-Some-clause-ok c =
     let told = outcome_with c.args.processors c.args.records.now in
@@ -25,9 +22,6 @@ returns-in-Some-clause-ok c =
     (λ added. inl (adds_one c.args.self.now.ends c.add_at.new.self.ends (told c.args.blocks.items)
     c.in-Some.place (rw (← c.as_slice-2.ensures.value) c.in-Some.ensures.some) added))
     c.add_at.ensures.added
-
-pub add_end-requires-clause-room : goal.add_end-requires-clause-room
-add_end-requires-clause-room c = c.requires
 
 pub add_end-requires-clause-none : goal.add_end-requires-clause-none
 add_end-requires-clause-none c =
