@@ -1,10 +1,10 @@
 -- Codes that tell what they are the codes of apart, whatever stands after them.
-use Rattle.std.proofs.Common.{ℕ, zero, suc, ◌≡◌, ◌+◌, ◌/◌, ◌^◌, ◌<◌, List, [], ◌∷◌, ◌++◌, None, Some, length, refl, sym, ◌∙◌, ap, arith, inl, inr, append_assoc}
-use Rattle.std.proofs.lemmas.Bool.{cases_Bool, cond-true, cond-false, ltb-true}
-use Rattle.std.specs.List.{AllByRecursion, flat_map}
+use Rattle.std.proofs.Common.{ℕ, zero, suc, ◌≡◌, ◌+◌, ◌*◌, ◌/◌, ◌^◌, ◌<◌, ◌≤◌, ◌==◌, List, [], ◌∷◌, ◌++◌, Option, None, Some, length, refl, sym, ◌∙◌, ap, subst, arith, inl, inr, append_assoc, eq-eqb, ne_eqb}
+use Rattle.std.proofs.lemmas.Bool.{cases_Bool, cases_eq, cases_lt, cond-true, cond-false, ltb-true}
+use Rattle.std.specs.List.{flat_map, range_with_len}
 use Rattle.std.specs.Prelude.{nat_lt}
 use Rattle.hp_states.specs.Numbers.{low_bytes, wide_code, number_code, option_code}
-use Rattle.hp_states.specs.Parts.{counted_code, words_code}
+use Rattle.hp_states.specs.Parts.{counted_code, kernel_code, odd_page_code, page_code, start_code, words_code}
 
 -- of two codes with anything after them: where they are equal, they are of the same, and so is what
 -- follows
@@ -91,18 +91,22 @@ many-apart code tells (a ∷ us) (b ∷ vs) xs ys size e =
     (cc, rest.1)
 many-apart code tells _ _ xs ys size e = absurd (omega arith)
 
--- rows of us many each
-pub rows-apart : {A : Type 0} (code : A → List ℕ) → TellsApart code → (count : ℕ) (us vs : List (List A))
-    (xs ys : List ℕ)
-    → length us ≡ length vs → AllByRecursion (λ row. length row ≡ count) us
-    → AllByRecursion (λ row. length row ≡ count) vs
-    → flat_map (flat_map code) us ++ xs ≡ flat_map (flat_map code) vs ++ ys → (us ≡ vs) × (xs ≡ ys)
-rows-apart code tells count [] [] xs ys size left right e = (refl, e)
-rows-apart code tells count (a ∷ us) (b ∷ vs) xs ys size left right e =
-    let first = many-apart code tells a b _ _ (left.0 ∙ sym right.0) (simp append_assoc at e) in
-    let rest = rows-apart code tells count us vs xs ys (omega arith) left.1 right.1 first.1 in
-    (cc, rest.1)
-rows-apart code tells count _ _ xs ys size left right e = absurd (omega arith)
+-- codes of the numbers from one number on, as many of each: what they tell of each number holds of all
+pub range-apart : (f g : ℕ → List ℕ) (R : ℕ → Type 0)
+    → ((k : ℕ) (xs ys : List ℕ) → f k ++ xs ≡ g k ++ ys → R k × (xs ≡ ys))
+    → (from count : ℕ) (xs ys : List ℕ)
+    → flat_map f (range_with_len from count) ++ xs ≡ flat_map g (range_with_len from count) ++ ys
+    → ((k : ℕ) → from ≤ k → k < from + count → R k) × (xs ≡ ys)
+range-apart f g R tells from zero xs ys e = (λ k low high. absurd (omega (arith, low, high)), e)
+range-apart f g R tells from (suc count) xs ys e =
+    let first = tells from _ _ (simp append_assoc at e) in
+    let rest = range-apart f g R tells (from + 1) count xs ys first.1 in (
+      λ k low high. elim (cases_lt from k) [
+        | inl less ↦ rest.0 k (omega (arith, less)) (omega (arith, high))
+        | inr past ↦ (let here : from ≡ k = omega (arith, low, past) in subst R here first.0)
+      ],
+      rest.1,
+    )
 
 -- numbers with their count, or a number of it, in front
 numbers-apart : (m n : ℕ) (us vs : List ℕ) (xs ys : List ℕ) → (m ≡ n → length us ≡ length vs)
@@ -124,3 +128,152 @@ words-apart (Some us) None xs ys e =
 words-apart (Some us) (Some vs) xs ys e =
     let h = numbers-apart (length us + 1) (length vs + 1) us vs xs ys (λ same. omega arith) e in
     (cc, h.1)
+
+-- ---- pages
+
+-- a page is not mapped, or has a frame and as many words as the layout says, or is odd
+data PageForm (count : ℕ) (frame : Option ℕ) (words : Option (List ℕ)) : Type 0 where
+  unmapped : frame ≡ None → words ≡ None → page_code count frame words ≡ number_code 0
+      → PageForm count frame words
+  mapped : (f : ℕ) (ws : List ℕ) → frame ≡ Some f → words ≡ Some ws → length ws ≡ count
+      → page_code count frame words ≡ number_code (f + 2) ++ flat_map number_code ws
+      → PageForm count frame words
+  odd : page_code count frame words ≡ odd_page_code frame words → PageForm count frame words
+
+page_form : (count : ℕ) (frame : Option ℕ) (words : Option (List ℕ)) → PageForm count frame words
+page_form count None None = unmapped refl refl refl
+page_form count None (Some ws) = odd refl
+page_form count (Some f) None = odd refl
+page_form count (Some f) (Some ws) = elim (cases_eq (length ws) count) [
+  | inl same ↦ mapped f ws refl refl same (cond-true (length ws == count) _ _ (eq-eqb _ _ same))
+  | inr apart ↦ odd (cond-false (length ws == count) _ _ (ne_eqb _ _ apart))
+]
+
+-- the codes of two pages by their forms
+pages_by_forms : (count : ℕ) (f g : Option ℕ) (u v : Option (List ℕ)) (xs ys : List ℕ)
+    → PageForm count f u → PageForm count g v → page_code count f u ++ xs ≡ page_code count g v ++ ys
+    → ((f ≡ g) × (u ≡ v)) × (xs ≡ ys)
+pages_by_forms count f g u v xs ys (unmapped a b c) (unmapped p q r) e =
+    ((a ∙ sym p, b ∙ sym q), (number-apart 0 0 xs ys (rw (c, r) at e)).1)
+pages_by_forms count f g u v xs ys (unmapped a b c) (mapped frame ws p q many r) e =
+    absurd (omega (arith, (number-apart 0 (frame + 2) xs _ (simp append_assoc at (rw (c, r) at e))).0))
+pages_by_forms count f g u v xs ys (unmapped a b c) (odd r) e =
+    absurd (omega (arith, (number-apart 0 1 xs _ (simp append_assoc at (rw (c, r) at e))).0))
+pages_by_forms count f g u v xs ys (mapped frame ws a b many c) (unmapped p q r) e =
+    absurd (omega (arith, (number-apart (frame + 2) 0 _ ys (simp append_assoc at (rw (c, r) at e))).0))
+pages_by_forms count f g u v xs ys (mapped frame ws a b many c) (mapped other vs p q also r) e =
+    let first = number-apart (frame + 2) (other + 2) _ _ (simp append_assoc at (rw (c, r) at e)) in
+    let rest = many-apart number_code number-apart ws vs xs ys (many ∙ sym also) first.1 in
+    let frames : frame ≡ other = omega (arith, first.0) in
+    ((a ∙ (ap Some frames ∙ sym p), b ∙ (ap Some rest.0 ∙ sym q)), rest.1)
+pages_by_forms count f g u v xs ys (mapped frame ws a b many c) (odd r) e =
+    absurd (omega (arith, (number-apart (frame + 2) 1 _ _ (simp append_assoc at (rw (c, r) at e))).0))
+pages_by_forms count f g u v xs ys (odd c) (unmapped p q r) e =
+    absurd (omega (arith, (number-apart 1 0 _ ys (simp append_assoc at (rw (c, r) at e))).0))
+pages_by_forms count f g u v xs ys (odd c) (mapped frame ws p q many r) e =
+    absurd (omega (arith, (number-apart 1 (frame + 2) _ _ (simp append_assoc at (rw (c, r) at e))).0))
+pages_by_forms count f g u v xs ys (odd c) (odd r) e =
+    let first = number-apart 1 1 _ _ (simp append_assoc at (rw (c, r) at e)) in
+    let frames = option-apart f g _ _ first.1 in
+    let words = words-apart u v xs ys frames.1 in
+    ((frames.0, words.0), words.1)
+
+pub page-apart : (count : ℕ) (f g : Option ℕ) (u v : Option (List ℕ)) (xs ys : List ℕ)
+    → page_code count f u ++ xs ≡ page_code count g v ++ ys → ((f ≡ g) × (u ≡ v)) × (xs ≡ ys)
+page-apart count f g u v xs ys e =
+    pages_by_forms count f g u v xs ys (page_form count f u) (page_form count g v) e
+
+-- ---- kernel blocks
+
+data StartForm (gap order : ℕ) : Type 0 where
+  low : order < 14 → start_code gap order ≡ number_code (16 * gap + order + 1) → StartForm gap order
+  high : start_code gap order ≡ number_code (16 * gap + 15) ++ number_code order → StartForm gap order
+
+start_form : (gap order : ℕ) → StartForm gap order
+start_form gap order = elim (cases_Bool (nat_lt order 14)) [
+  | inl less ↦ low (ltb-true order 14 less) (cond-true (nat_lt order 14) _ _ less)
+  | inr more ↦ high (cond-false (nat_lt order 14) _ _ more)
+]
+
+starts_by_forms : (gap a b : ℕ) (xs ys : List ℕ) → StartForm gap a → StartForm gap b
+    → start_code gap a ++ xs ≡ start_code gap b ++ ys → (a ≡ b) × (xs ≡ ys)
+starts_by_forms gap a b xs ys (low less is) (low below also) e =
+    let h = number-apart (16 * gap + a + 1) (16 * gap + b + 1) xs ys (rw (is, also) at e) in
+    (omega (arith, h.0), h.1)
+starts_by_forms gap a b xs ys (low less is) (high also) e =
+    let h =
+    number-apart (16 * gap + a + 1) (16 * gap + 15) xs _ (simp append_assoc at (rw (is, also) at e)) in
+    absurd (omega (arith, less, h.0))
+starts_by_forms gap a b xs ys (high is) (low below also) e =
+    let h =
+    number-apart (16 * gap + 15) (16 * gap + b + 1) _ ys (simp append_assoc at (rw (is, also) at e)) in
+    absurd (omega (arith, below, h.0))
+starts_by_forms gap a b xs ys (high is) (high also) e =
+    let h =
+    number-apart (16 * gap + 15) (16 * gap + 15) _ _ (simp append_assoc at (rw (is, also) at e)) in
+    number-apart a b xs ys h.1
+
+-- the number that a code begins with, and what follows it
+record Begins (low high : ℕ) (code : List ℕ) : Type 0 where
+  number : ℕ
+  rest : List ℕ
+  at_least : low ≤ number
+  at_most : number ≤ high
+  is : code ≡ number_code number ++ rest
+
+start_begins : (gap order : ℕ) (xs : List ℕ) → StartForm gap order
+    → Begins (16 * gap + 1) (16 * gap + 15) (start_code gap order ++ xs)
+start_begins gap order xs (low less is) = record {
+  number = 16 * gap + order + 1;
+  rest = xs;
+  at_least = omega arith;
+  at_most = omega (arith, less);
+  is = rw is refl;
+}
+start_begins gap order xs (high is) = record {
+  number = 16 * gap + 15;
+  rest = number_code order ++ xs;
+  at_least = omega arith;
+  at_most = omega arith;
+  is = rw is (append_assoc (number_code (16 * gap + 15)) (number_code order) xs);
+}
+
+-- a code after a gap begins with a number of this gap or of a greater one
+after_gap : (gap : ℕ) (orders : List (Option ℕ)) (xs : List ℕ)
+    → (n : ℕ) × (rest : List ℕ) × (16 * gap ≤ n) × (kernel_code gap orders ++ xs ≡ number_code n ++ rest)
+after_gap gap [] xs = (16 * gap, xs, omega arith, refl)
+after_gap gap (None ∷ orders) xs =
+    let h = after_gap (gap + 1) orders xs in
+    (h.0, h.1, omega (arith, h.2), h.3)
+after_gap gap (Some order ∷ orders) xs =
+    let h = start_begins gap order (kernel_code 0 orders ++ xs) (start_form gap order) in (
+      h.number,
+      h.rest,
+      omega (arith, h.at_least),
+      append_assoc (start_code gap order) (kernel_code 0 orders) xs ∙ h.is,
+    )
+
+-- no code with a start right here is one with none
+starts_here : (gap order : ℕ) (us vs : List (Option ℕ)) (xs ys : List ℕ)
+    → kernel_code gap (Some order ∷ us) ++ xs ≡ kernel_code (gap + 1) vs ++ ys → ⊥
+starts_here gap order us vs xs ys e =
+    let h = start_begins gap order (kernel_code 0 us ++ xs) (start_form gap order) in
+    let k = after_gap (gap + 1) vs ys in
+    let same = number-apart h.number k.0 h.rest k.1
+    (sym h.is ∙ (sym (append_assoc (start_code gap order) (kernel_code 0 us) xs) ∙ (e ∙ k.3))) in
+    absurd (omega (arith, same.0, h.at_most, k.2))
+
+pub kernel-apart : (gap : ℕ) (us vs : List (Option ℕ)) (xs ys : List ℕ) → length us ≡ length vs
+    → kernel_code gap us ++ xs ≡ kernel_code gap vs ++ ys → (us ≡ vs) × (xs ≡ ys)
+kernel-apart gap [] [] xs ys size e = (refl, (number-apart (16 * gap) (16 * gap) xs ys e).1)
+kernel-apart gap (None ∷ us) (None ∷ vs) xs ys size e =
+    let h = kernel-apart (gap + 1) us vs xs ys (omega arith) e in
+    (ap (λ (orders : List (Option ℕ)). None ∷ orders) h.0, h.1)
+kernel-apart gap (None ∷ us) (Some b ∷ vs) xs ys size e = absurd (starts_here gap b vs us ys xs (sym e))
+kernel-apart gap (Some a ∷ us) (None ∷ vs) xs ys size e = absurd (starts_here gap a us vs xs ys e)
+kernel-apart gap (Some a ∷ us) (Some b ∷ vs) xs ys size e =
+    let first = starts_by_forms gap a b _ _ (start_form gap a) (start_form gap b)
+    (simp append_assoc at e) in
+    let rest = kernel-apart 0 us vs xs ys (omega arith) first.1 in
+    (cc, rest.1)
+kernel-apart gap _ _ xs ys size e = absurd (omega arith)

@@ -1,7 +1,26 @@
 -- Many codes, written one after another.
-use Rattle.std.proofs.Common.{ℕ, ◌≡◌, ◌+◌, ◌<◌, ◌≤◌, List, ◌++◌, length, get_or, take}
+use Rattle.std.proofs.Common.{ℕ, zero, suc, ◌≡◌, ◌+◌, ◌*◌, ◌<◌, ◌≤◌, List, [], ◌∷◌, ◌++◌, Option, None, Some, length, get_or, take, drop, refl, sym, ◌∙◌, ap, arith, append_assoc}
 use Rattle.std.proofs.lemmas.List.{flat_map_more, take_all, take_more}
-use Rattle.std.specs.List.{flat_map}
+use Rattle.std.proofs.lemmas.List.FromFn.{get_or-range_with_len, length-range_with_len}
+use Rattle.std.specs.List.{flat_map, range_with_len}
+use Rattle.hp_states.specs.Numbers.{number_code}
+use Rattle.hp_states.specs.Parts.{kernel_code, start_code}
+
+-- the items from a place on
+at_place : (orders : List (Option ℕ)) (i : ℕ) → i < length orders
+    → drop i orders ≡ get_or orders i None ∷ drop (i + 1) orders
+at_place [] i low = absurd (omega (arith, low))
+at_place (o ∷ orders) zero low = refl
+at_place (o ∷ orders) (suc i) low =
+    let on : suc i + 1 ≡ suc (i + 1) = omega arith in
+    at_place orders i (omega arith)
+    ∙ ap (λ (n : ℕ). get_or orders i None ∷ drop n (o ∷ orders)) (sym on)
+
+past_all : (orders : List (Option ℕ)) (i : ℕ) → length orders ≤ i → drop i orders ≡ []
+past_all [] zero past = refl
+past_all [] (suc i) past = refl
+past_all (o ∷ orders) zero past = absurd (omega (arith, past))
+past_all (o ∷ orders) (suc i) past = past_all orders i (omega arith)
 
 -- one more
 pub one_more : {X : Type 0} (f : X → List ℕ) (start before after : List ℕ) (xs : List X) (i : ℕ) (d : X)
@@ -14,3 +33,52 @@ one_more f start before after xs i d low so_far e =
 pub all_of : {X : Type 0} (f : X → List ℕ) (start now : List ℕ) (xs : List X) (i : ℕ) → length xs ≤ i
     → now ≡ start ++ flat_map f (take i xs) → now ≡ start ++ flat_map f xs
 all_of f start now xs i past so_far = rw (so_far, take_all i xs past)
+
+-- ---- codes of the numbers below a count
+
+-- one more
+pub range_more : (f : ℕ → List ℕ) (start before after : List ℕ) (count i : ℕ) → i < count
+    → before ≡ start ++ flat_map f (take i (range_with_len 0 count)) → after ≡ before ++ f i
+    → after ≡ start ++ flat_map f (take (i + 1) (range_with_len 0 count))
+range_more f start before after count i low so_far e =
+    one_more f start before after (range_with_len 0 count) i 0
+    (omega (arith, low, length-range_with_len 0 count)) so_far
+    (let same : i ≡ get_or (range_with_len 0 count) i 0 =
+    omega (arith, get_or-range_with_len 0 count i 0 low) in
+    e ∙ ap (λ (n : ℕ). before ++ f n) same)
+
+-- all of them
+pub range_all : (f : ℕ → List ℕ) (start now : List ℕ) (count i : ℕ) → count ≤ i
+    → now ≡ start ++ flat_map f (take i (range_with_len 0 count))
+    → now ≡ start ++ flat_map f (range_with_len 0 count)
+range_all f start now count i past so_far =
+    all_of f start now (range_with_len 0 count) i (omega (arith, past, length-range_with_len 0 count)) so_far
+
+-- ---- kernel blocks
+
+-- a frame at which no block starts
+pub gap_more : (orders : List (Option ℕ)) (i gap : ℕ) (code all : List ℕ) → i < length orders
+    → get_or orders i None ≡ None → code ++ kernel_code gap (drop i orders) ≡ all
+    → code ++ kernel_code (gap + 1) (drop (i + 1) orders) ≡ all
+gap_more orders i gap code all low none so_far =
+    ap (λ (rest : List (Option ℕ)). code ++ kernel_code gap rest)
+    (sym (ap (λ (order : Option ℕ). order ∷ drop (i + 1) orders) none) ∙ sym (at_place orders i low)) ∙ so_far
+
+-- a frame at which one starts
+pub start_more : (orders : List (Option ℕ)) (i gap order : ℕ) (before after all : List ℕ)
+    → i < length orders → get_or orders i None ≡ Some order → after ≡ before ++ start_code gap order
+    → before ++ kernel_code gap (drop i orders) ≡ all
+    → after ++ kernel_code 0 (drop (i + 1) orders) ≡ all
+start_more orders i gap order before after all low some e so_far =
+    ap (λ (code : List ℕ). code ++ kernel_code 0 (drop (i + 1) orders)) e
+    ∙ (append_assoc before (start_code gap order) (kernel_code 0 (drop (i + 1) orders))
+    ∙ (ap (λ (rest : List (Option ℕ)). before ++ kernel_code gap rest)
+    (sym (ap (λ (o : Option ℕ). o ∷ drop (i + 1) orders) some) ∙ sym (at_place orders i low)) ∙ so_far))
+
+-- all frames
+pub frames_done : (orders : List (Option ℕ)) (i gap : ℕ) (before after all : List ℕ) → length orders ≤ i
+    → after ≡ before ++ number_code (16 * gap) → before ++ kernel_code gap (drop i orders) ≡ all
+    → after ≡ all
+frames_done orders i gap before after all past e so_far =
+    e ∙ (ap (λ (rest : List (Option ℕ)). before ++ kernel_code gap rest) (sym (past_all orders i past))
+    ∙ so_far)

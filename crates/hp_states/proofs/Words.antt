@@ -1,6 +1,9 @@
--- The words of a page of a memory.
-use Rattle.std.proofs.Common.{ℕ, ◌≡◌, List, Option, Some, None, sym, ◌∙◌, ap, refl}
-use Rattle.std.specs.Option.{option_map}
+-- The words of a page of a memory, and its code.
+use Rattle.std.proofs.Common.{ℕ, ◌≡◌, ◌+◌, ◌==◌, List, ◌++◌, Option, Some, None, length, sym, ◌∙◌, ap, refl, eq-eqb}
+use Rattle.std.proofs.lemmas.Bool.{cond-true}
+use Rattle.std.proofs.lemmas.Option.{same_Some}
+use Rattle.std.specs.List.{flat_map}
+use Rattle.std.specs.Option.{IsSome, option_map}
 use Rattle.hp_units.specs.LayoutParts.{LayoutParts, IsLayout}
 use Rattle.hp_units.specs.Memory.{Memory, Pages}
 use Rattle.hp_units.specs.Pages.{frame_at, words_at}
@@ -9,6 +12,8 @@ use Rattle.hp_tape.specs.Deltas.{page_frames_of}
 use Rattle.hp_laws.proofs.Fitting.{placed-fits}
 use Rattle.hp_pages.specs.Pages.{PagesValue, words_in, words_of}
 use Rattle.hp_pages.proofs.Views.{AreOnce, once_placed, view-words_at}
+use Rattle.hp_states.specs.Numbers.{number_code}
+use Rattle.hp_states.specs.Parts.{odd_page_code, page_code}
 
 unmapped : (l : LayoutParts) (words : Option (List ℕ)) → IsPage l None words → words ≡ None
 unmapped l None is = refl
@@ -30,3 +35,30 @@ words_are l s v owner page answer layout placed is e =
     rw (e, is)
     (by_entry l s.pages owner page (frame_at s.pages owner page)
     (once_placed l s placed (placed-fits l s layout placed).pages) (placed.in_order.words owner page) refl)
+
+-- ---- the code of a page
+
+pub unmapped_code : (l : LayoutParts) (frame : Option ℕ) (words : Option (List ℕ)) → IsPage l frame words
+    → frame ≡ None → number_code 0 ≡ page_code l.words frame words
+unmapped_code l None None is e = refl
+unmapped_code l None (Some ws) is e = absurd is
+unmapped_code l (Some f) words is e = absurd cc
+
+-- a frame has words
+pub has_words : {A : Type 0} (now : A → List ℕ) (l : LayoutParts) (frame : Option ℕ)
+    (words : Option (List ℕ)) (f : ℕ) (answer : Option A) → IsPage l frame words → frame ≡ Some f
+    → option_map now answer ≡ words → IsSome answer
+has_words now l None words f answer is e a = absurd cc
+has_words now l (Some g) None f answer is e a = absurd is
+has_words now l (Some g) (Some ws) f None is e a = absurd cc
+has_words now l (Some g) (Some ws) f (Some x) is e a = refl
+
+pub mapped_code : (l : LayoutParts) (frame : Option ℕ) (words : Option (List ℕ)) (f : ℕ) (ws : List ℕ)
+    → IsPage l frame words → frame ≡ Some f → words ≡ Some ws
+    → number_code (f + 2) ++ flat_map number_code ws ≡ page_code l.words frame words
+mapped_code l None words f ws is e s = absurd cc
+mapped_code l (Some g) None f ws is e s = absurd is
+mapped_code l (Some g) (Some us) f ws is e s =
+    rw (← same_Some g f e, ← same_Some us ws s)
+    (sym (cond-true (length us == l.words) (number_code (g + 2) ++ flat_map number_code us)
+    (odd_page_code (Some g) (Some us)) (eq-eqb (length us) l.words is)))

@@ -1,10 +1,8 @@
 //! The buffer that states and keys are encoded into.
-ghost use Rattle.std.specs.Prelude.{◌≡◌, [], ◌∷◌, ◌++◌, OnOk, option_map};
+ghost use Rattle.std.specs.Prelude.{◌≡◌, [], ◌∷◌, ◌++◌, OnOk};
 ghost use Rattle.std.specs.List.{flat_map};
-ghost use Rattle.hp_states.specs.Numbers.{number_code, option_code, wide_code};
-ghost use Rattle.hp_states.specs.Parts.{words_code};
+ghost use Rattle.hp_states.specs.Numbers.{number_code, wide_code};
 
-use hp_units::{Frame, Order};
 use std::alloc::{AllocError, Global};
 use std::marker::Model;
 
@@ -103,42 +101,8 @@ impl Code {
         Ok(())
     }
 
-    /// Appends an optional frame: 0 for none, and its number plus one otherwise.
-    pub(crate) fn frame_or_none(&mut self, frame: Option<Frame>) -> Result<(), AllocError>
-        ensures { OnOk result (self.new ≡ self.old ++ option_code frame) }
-    {
-        match frame {
-            None => self.number(0),
-            Some(frame) => self.number(u64::from(frame.0) + 1),
-        }
-    }
-
-    /// Appends an optional order: 0 for none, and the order plus one otherwise.
-    pub(crate) fn order_or_none(&mut self, order: Option<Order>) -> Result<(), AllocError>
-        ensures { OnOk result (self.new ≡ self.old ++ option_code order) }
-    {
-        match order {
-            None => self.number(0),
-            Some(order) => self.number(u64::from(order.0) + 1),
-        }
-    }
-
-    /// Appends a page's words after their count plus one, or 0 if the page is not mapped.
-    pub(crate) fn words(&mut self, words: Option<&[u64]>) -> Result<(), AllocError>
-        ensures { OnOk result
-            (self.new ≡ self.old ++ words_code (option_map (λ w. w.now) words.entry)) }
-    {
-        match words {
-            None => self.number(0),
-            Some(words) => {
-                self.number(words.len() as u64 + 1)?;
-                self.numbers(words)
-            }
-        }
-    }
-
     /// Appends several numbers without their count.
-    fn numbers(&mut self, numbers: &[u64]) -> Result<(), AllocError>
+    pub(crate) fn numbers(&mut self, numbers: &[u64]) -> Result<(), AllocError>
         ensures { OnOk result (self.new ≡ self.old ++ flat_map number_code numbers.now) }
     {
         for number in numbers {

@@ -1,14 +1,14 @@
 //! The encoding of a memory's state, part by part.
-ghost use Rattle.std.specs.Prelude.{◌≡◌, ◌/◌, ◌%◌, ◌<◌, ◌≤◌, [], ◌∷◌, ◌++◌, OnOk, length, option_map, slice_index_or};
-ghost use Rattle.std.specs.List.{flat_map};
+ghost use Rattle.std.specs.Prelude.{◌≡◌, ◌+◌, ◌*◌, ◌/◌, ◌^◌, ◌<◌, ◌≤◌, ◌∷◌, ◌++◌, OnOk, Some, length, option_map};
+ghost use Rattle.std.specs.List.{flat_map, range_with_len};
+ghost use Rattle.hp_units.specs.Arithmetic.{pageblock_count};
 ghost use Rattle.hp_units.specs.Memory.{cached_list, free_list};
 ghost use Rattle.hp_units.specs.Pages.{words_at};
 ghost use Rattle.hp_units.specs.Placement.{IsShaped};
 ghost use Rattle.hp_states.specs.Codes.{state_code};
 ghost use Rattle.hp_laws.specs.Numberings.{number_of};
 ghost use Rattle.hp_laws.specs.Renumbered.{renumbered, renumbered_claim, renumbered_row};
-ghost use Rattle.hp_states.specs.Numbers.{number_code, option_code};
-ghost use Rattle.hp_states.specs.Parts.{auto_number, claim_code, counted_code, kind_code, kind_number, row_code, wish_number, words_code};
+ghost use Rattle.hp_states.specs.Parts.{auto_number, claim_code, claim_number, counted_code, kernel_code, kind_at, kind_number, kinds_byte, kinds_code, owner_code, page_code_at, row_code, row_number, start_code, wish_number};
 
 use crate::code::Code;
 use hp_laws::place_of;
@@ -20,7 +20,6 @@ use hp_units::{
 use std::alloc::AllocError;
 
 /// Appends the code of the memory's state, in which operations have the numbers of `number_of`.
-#[tactic(auto, unfolding(crate::specs::Codes::state_code))]
 pub(crate) fn put_memory(
     code: &mut Code,
     memory: &Memory,
@@ -34,11 +33,11 @@ pub(crate) fn put_memory(
     put_areas(code, memory)?;
     put_kinds(code, memory)?;
     put_cached(code, memory)?;
-    put_table(code, memory)?;
-    put_contents(code, memory)?;
+    put_pages(code, memory)?;
     put_kernel(code, memory)?;
     put_rows(code, memory, fixed, latest)?;
-    code.byte(auto_number(memory.auto()))
+    code.byte(auto_number(memory.auto()))?;
+    Ok(())
 }
 
 /// Appends all free lists.
@@ -63,6 +62,9 @@ fn put_area(code: &mut Code, memory: &Memory, class: Class, order: Order) -> Res
     let areas = memory.buddy();
     let count = areas.len(class, order);
     code.number(u64::from(count))?;
+    if count == 0 {
+        return Ok(());
+    }
     let mut ahead = areas.front(class, order);
     for _number in 0..count {
         let frame = ahead.unwrap();
@@ -72,20 +74,57 @@ fn put_area(code: &mut Code, memory: &Memory, class: Class, order: Order) -> Res
     Ok(())
 }
 
-/// Appends the kind of each pageblock, one byte each.
+/// Appends the kinds of all pageblocks, four to a byte.
 fn put_kinds(code: &mut Code, memory: &Memory) -> Result<(), AllocError>
     requires { IsShaped memory.now.layout memory.now.state }
-    ensures { OnOk result (code.new ≡ code.old ++ flat_map kind_code memory.now.state.free.areas.kinds) }
+    ensures { OnOk result (code.new ≡ code.old ++ flat_map (kinds_code memory.now.state.free.areas)
+        (range_with_len 0 ((pageblock_count memory.now.layout + 3) / 4))) }
 {
-    for number in 0..memory.layout().blocks() * memory.layout().pageblocks() {
-        code.byte(kind_number(memory.buddy().kind(Pageblock(number))))?;
+    let count = pageblocks(memory);
+    for four in 0..(count + 3) / 4 {
+        code.byte(kinds_byte(memory, four))?;
     }
     Ok(())
 }
 
-/// Returns the byte for a pageblock's kind.
+/// Returns the number of pageblocks.
+fn pageblocks(memory: &Memory) -> u32
+    ensures count { result ≡ pageblock_count memory.now.layout }
+    ensures small { result ≤ 2 ^ 20 }
+{
+    memory.layout().blocks() * memory.layout().pageblocks()
+}
+
+/// Returns the kinds of four pageblocks in one byte.
+fn kinds_byte(memory: &Memory, four: u32) -> u8
+    requires shaped { IsShaped memory.now.layout memory.now.state }
+    requires small { four < 2 ^ 20 }
+    ensures { result ≡ kinds_byte memory.now.state.free.areas four }
+{
+    let first = 4 * four;
+    kind_at(memory, first)
+        + 4 * kind_at(memory, first + 1)
+        + 16 * kind_at(memory, first + 2)
+        + 64 * kind_at(memory, first + 3)
+}
+
+/// Returns the number for a pageblock's kind; past the last pageblock, that of a plain one.
+fn kind_at(memory: &Memory, pageblock: u32) -> u8
+    requires { IsShaped memory.now.layout memory.now.state }
+    ensures is { result ≡ kind_at memory.now.state.free.areas pageblock }
+    ensures small { result < 4 }
+{
+    if pageblock < pageblocks(memory) {
+        kind_number(memory.buddy().kind(Pageblock(pageblock)))
+    } else {
+        kind_number(Kind::plain())
+    }
+}
+
+/// Returns the number for a kind.
 fn kind_number(kind: Kind) -> u8
-    ensures { result ≡ kind_number kind.mobility kind.isolated }
+    ensures is { result ≡ kind_number kind.mobility kind.isolated }
+    ensures small { result < 4 }
 {
     match (kind.mobility, kind.isolated) {
         (Mobility::Unmovable, false) => 0,
@@ -117,6 +156,9 @@ fn put_list(code: &mut Code, memory: &Memory, cpu: Cpu, pool: Pool) -> Result<()
     let lists = memory.cpus();
     let count = lists.len(cpu, pool);
     code.number(u64::from(count))?;
+    if count == 0 {
+        return Ok(());
+    }
     let mut ahead = lists.front(cpu, pool);
     for _number in 0..count {
         let frame = ahead.unwrap();
@@ -126,55 +168,46 @@ fn put_list(code: &mut Code, memory: &Memory, cpu: Cpu, pool: Pool) -> Result<()
     Ok(())
 }
 
-/// Appends the frame of each page of each owner.
-fn put_table(code: &mut Code, memory: &Memory) -> Result<(), AllocError>
-    requires { IsShaped memory.now.layout memory.now.state }
-    ensures { OnOk result
-        (code.new ≡ code.old ++ flat_map (flat_map option_code) memory.now.state.pages.table) }
+/// Appends all pages of all owners.
+fn put_pages(code: &mut Code, memory: &Memory) -> Result<(), AllocError>
+    ensures { OnOk result (code.new ≡ code.old
+        ++ flat_map (owner_code memory.now.layout memory.now.state.pages)
+        (range_with_len 0 memory.now.layout.owners)) }
 {
     for number in 0..memory.layout().owners() {
-        put_frames(code, memory, Owner(number))?;
+        put_owner(code, memory, Owner(number))?;
     }
     Ok(())
 }
 
-/// Appends the frame of each page of one owner.
-fn put_frames(code: &mut Code, memory: &Memory, owner: Owner) -> Result<(), AllocError>
-    requires shaped { IsShaped memory.now.layout memory.now.state }
-    requires owner { owner < memory.now.layout.owners }
+/// Appends all pages of one owner.
+fn put_owner(code: &mut Code, memory: &Memory, owner: Owner) -> Result<(), AllocError>
+    requires { owner < memory.now.layout.owners }
     ensures { OnOk result
-        (code.new ≡ code.old ++ flat_map option_code (slice_index_or memory.now.state.pages.table owner [])) }
+        (code.new ≡ code.old ++ owner_code memory.now.layout memory.now.state.pages owner) }
 {
     for number in 0..memory.layout().pages() {
-        code.frame_or_none(memory.frame_at(owner, Page(number)))?;
+        put_page(code, memory, owner, Page(number))?;
     }
     Ok(())
 }
 
-/// Appends the words of all pages of all owners.
-fn put_contents(code: &mut Code, memory: &Memory) -> Result<(), AllocError>
-    requires { IsShaped memory.now.layout memory.now.state }
-    ensures { OnOk result
-        (code.new ≡ code.old ++ flat_map (flat_map words_code) memory.now.state.pages.contents) }
-{
-    for number in 0..memory.layout().owners() {
-        put_words(code, memory, Owner(number))?;
-    }
-    Ok(())
-}
-
-/// Appends the words of all pages of one owner.
-fn put_words(code: &mut Code, memory: &Memory, owner: Owner) -> Result<(), AllocError>
-    requires shaped { IsShaped memory.now.layout memory.now.state }
+/// Appends one page: its frame plus two and then its words, or 0 if it is not mapped.
+fn put_page(code: &mut Code, memory: &Memory, owner: Owner, page: Page) -> Result<(), AllocError>
     requires owner { owner < memory.now.layout.owners }
-    ensures { OnOk result
-        (code.new ≡ code.old
-        ++ flat_map words_code (slice_index_or memory.now.state.pages.contents owner [])) }
+    requires page { page < memory.now.layout.pages }
+    ensures { OnOk result (code.new ≡ code.old
+        ++ page_code_at memory.now.layout memory.now.state.pages owner page) }
 {
-    for number in 0..memory.layout().pages() {
-        code.words(page_words(memory, owner, Page(number)))?;
+    memory.is_placed();
+    match memory.frame_at(owner, page) {
+        None => code.number(0),
+        Some(frame) => {
+            let words = page_words(memory, owner, page).unwrap();
+            code.number(u64::from(frame.0) + 2)?;
+            code.numbers(words)
+        }
     }
-    Ok(())
 }
 
 /// Returns the page's words, or `None` if it is not mapped.
@@ -187,15 +220,36 @@ fn page_words(memory: &Memory, owner: Owner, page: Page) -> Option<&[u64]>
     memory.pages().words(owner, page)
 }
 
-/// Appends for each frame the order of the kernel block that starts there, if any.
+/// Appends the kernel blocks: each start after the number of frames in front of it at which none
+/// starts, and then the number of such frames behind the last one.
 fn put_kernel(code: &mut Code, memory: &Memory) -> Result<(), AllocError>
     requires { IsShaped memory.now.layout memory.now.state }
-    ensures { OnOk result (code.new ≡ code.old ++ flat_map option_code memory.now.state.kernel) }
+    ensures { OnOk result (code.new ≡ code.old ++ kernel_code 0 memory.now.state.kernel) }
 {
+    let mut gap = 0u64;
     for number in 0..memory.layout().frames() {
-        code.order_or_none(memory.kernel_at(Frame(number)))?;
+        match memory.kernel_at(Frame(number)) {
+            None => gap += 1,
+            Some(order) => {
+                put_start(code, gap, order)?;
+                gap = 0;
+            }
+        }
     }
-    Ok(())
+    code.number(16 * gap)
+}
+
+/// Appends the start of a kernel block, after `gap` frames at which none starts. One number has
+/// both if the order is below 14, as it is in every layout.
+fn put_start(code: &mut Code, gap: u64, order: Order) -> Result<(), AllocError>
+    requires { gap ≤ 2 ^ 20 }
+    ensures { OnOk result (code.new ≡ code.old ++ start_code gap order) }
+{
+    if order.0 < 14 {
+        return code.number(16 * gap + u64::from(order.0) + 1);
+    }
+    code.number(16 * gap + 15)?;
+    code.number(u64::from(order.0))
 }
 
 /// Appends the row of each memory block.
@@ -215,57 +269,58 @@ fn put_rows(
     Ok(())
 }
 
-/// Appends one row: its state, its zone and its claim.
+/// Appends one row: its state, its zone and the number of its claim in one byte, and then what is
+/// left of its claim.
 fn put_row(code: &mut Code, row: Row, fixed: Serial, latest: &[Serial]) -> Result<(), AllocError>
     ensures { OnOk result
         (code.new ≡ code.old ++ row_code (renumbered_row (number_of fixed latest.now) row)) }
 {
-    let claim = row.claim;
-    code.byte(row.state.number())?;
-    code.byte(row.zone_number())?;
-    put_claim(code, claim, fixed, latest)
+    let number = row_number(&row);
+    match row.claim {
+        None => code.byte(number),
+        Some(claim) => put_claimed(code, number, claim, fixed, latest),
+    }
 }
 
-/// Appends an optional claim: 0 for none, and otherwise its wish and the number of its operation.
-fn put_claim(
+/// Returns the number for a row without its claim.
+fn row_number(row: &Row) -> u8
+    ensures is { result ≡ row_number row.now }
+    ensures small { result < 16 }
+{
+    row.state.number() + 4 * row.zone_number()
+}
+
+/// Appends the byte of a row that is claimed, and then half of the number that `number_of` gives to
+/// the claim's operation, rounded down. `row` is the number of the row without its claim.
+fn put_claimed(
     code: &mut Code,
-    claim: Option<Claim>,
+    row: u8,
+    claim: Claim,
     fixed: Serial,
     latest: &[Serial],
 ) -> Result<(), AllocError>
+    requires { row < 16 }
     ensures { OnOk result (code.new ≡ code.old
-        ++ claim_code (option_map (renumbered_claim (number_of fixed latest.now)) claim)) }
+        ++ (row + 16 * claim_number (Some (renumbered_claim (number_of fixed latest.now) claim)))
+        ∷ claim_code (Some (renumbered_claim (number_of fixed latest.now) claim))) }
 {
-    match claim {
-        None => code.byte(0),
-        Some(claim) => {
-            code.byte(wish_number(claim.wish))?;
-            put_op(code, claim.op, fixed, latest)
-        }
-    }
-}
-
-/// Appends the number that `number_of` gives to an operation: 1 if it is odd and 0 if it is even,
-/// then half of it, rounded down.
-fn put_op(code: &mut Code, op: Serial, fixed: Serial, latest: &[Serial]) -> Result<(), AllocError>
-    ensures { OnOk result (code.new ≡ code.old ++ number_of fixed latest.now op % 2
-        ∷ number_code (number_of fixed latest.now op / 2)) }
-{
-    match place_of(fixed, latest, op) {
+    let wish = wish_number(claim.wish);
+    match place_of(fixed, latest, claim.op) {
         Some(place) => {
-            code.byte(1)?;
+            code.byte(row + 16 * (wish + 4))?;
             code.number(place as u64)
         }
         None => {
-            code.byte(0)?;
-            code.number(op.0)
+            code.byte(row + 16 * wish)?;
+            code.number(claim.op.0)
         }
     }
 }
 
-/// Returns the byte for a wish; 0 is left for "no claim".
+/// Returns the number for a wish; 0 is left for "no claim".
 fn wish_number(wish: Wish) -> u8
-    ensures { result ≡ wish_number wish }
+    ensures is { result ≡ wish_number wish }
+    ensures small { result < 4 }
 {
     match wish {
         Wish::Off => 1,

@@ -1,8 +1,10 @@
-use Rattle.std.proofs.Common.{◌≡◌, ◌++◌, take}
-use Rattle.std.specs.List.{flat_map}
-use Rattle.hp_states.specs.Numbers.{option_code}
+use Rattle.std.proofs.Common.{◌≡◌, ◌≤◌, ◌++◌, drop}
+use Rattle.hp_states.specs.Parts.{kernel_code}
 use Rattle.hp_states.proofs.memories.put_kernel.Given as goal
 
 abbrev pub invariant-loop-number : goal.invariant-loop-number
-invariant-loop-number l =
-    l.code ≡ (l.initial.code ++ flat_map option_code (take l.number l.memory.state.kernel))
+invariant-loop-number l = record {
+  code : (l.code ++ kernel_code l.gap (drop l.number l.memory.state.kernel))
+      ≡ (l.initial.code ++ kernel_code 0 l.memory.state.kernel);
+  gap : l.gap ≤ l.number;
+}

@@ -1,8 +1,12 @@
-use Rattle.std.proofs.Common.{◌≡◌, ◌++◌, take}
-use Rattle.std.specs.List.{flat_map}
-use Rattle.hp_states.specs.Parts.{kind_code}
+use Rattle.std.proofs.Common.{◌≡◌, ◌+◌, ◌/◌, ◌++◌, take}
+use Rattle.std.specs.List.{flat_map, range_with_len}
+use Rattle.hp_units.specs.Arithmetic.{pageblock_count}
+use Rattle.hp_states.specs.Parts.{kinds_code}
 use Rattle.hp_states.proofs.memories.put_kinds.Given as goal
 
-abbrev pub invariant-loop-number : goal.invariant-loop-number
-invariant-loop-number l =
-    l.code ≡ (l.initial.code ++ flat_map kind_code (take l.number l.memory.state.free.areas.kinds))
+abbrev pub invariant-loop-four : goal.invariant-loop-four
+invariant-loop-four l =
+    l.code
+    ≡ (l.initial.code
+    ++ flat_map (kinds_code l.memory.state.free.areas)
+    (take l.four (range_with_len 0 ((pageblock_count l.memory.layout + 3) / 4))))

@@ -1,8 +1,0 @@
-use Rattle.std.proofs.Common.{◌≡◌, ◌++◌, take}
-use Rattle.std.specs.List.{flat_map}
-use Rattle.hp_states.specs.Numbers.{option_code}
-use Rattle.hp_states.proofs.memories.put_table.Given as goal
-
-abbrev pub invariant-loop-number : goal.invariant-loop-number
-invariant-loop-number l =
-    l.code ≡ (l.initial.code ++ flat_map (flat_map option_code) (take l.number l.memory.state.pages.table))
