@@ -1,5 +1,5 @@
 -- What lines take of receipts, and which plans end, does not depend on the numbers of operations.
-use Rattle.std.proofs.Common.{◌≡◌, ℕ, ◌+◌, ◌-◌, List, [], ◌∷◌, ◌++◌, length, map, Option, Some, None, refl, ap, sym, ◌∙◌, arith}
+use Rattle.std.proofs.Common.{◌≡◌, ℕ, ◌+◌, ◌-◌, List, [], ◌∷◌, ◌++◌, length, map, Option, Some, None, refl, ap, sym, ◌∙◌, arith, inl, inr}
 use Rattle.std.specs.Prelude.{fold, option_map}
 use Rattle.std.specs.List.{last_or}
 use Rattle.std.specs.Option.{option_map_or}
@@ -21,6 +21,7 @@ use Rattle.hp_schedules.specs.Outcomes.{told}
 use Rattle.hp_schedules.specs.Scripts.{Known, after_line, line_next, next_in, nothing_known, work_of}
 use Rattle.hp_schedules.specs.declared.scripts.OwnWork.{OwnWork}
 use Rattle.hp_schedules.specs.declared.scripts.Step.{Step}
+use Rattle.hp_laws.proofs.Options.{cases_option}
 use Rattle.hp_schedules.proofs.AfterLines.{any_known}
 
 -- ---- receipts without numbers
@@ -126,15 +127,12 @@ pub after_bare : (cpus : ℕ) (line : Step) (earlier later : List Receipt)
     → option_map (map bare) (after_line cpus nothing_known line earlier later)
     ≡ after_line cpus nothing_known line (map bare earlier) (map bare later)
 after_bare cpus line earlier [] =
-    both_or_none (option_map (map bare)) (line_next cpus nothing_known line earlier)
-    (line_next cpus nothing_known line (map bare earlier)) None (Some []) None (Some [])
+    both_or_none (option_map (map bare)) _ _ None (Some []) None (Some [])
     (line_bare cpus nothing_known line earlier) refl refl
 after_bare cpus line earlier (r ∷ rs) =
-    both_or_none (option_map (map bare)) (line_next cpus nothing_known line earlier)
-    (line_next cpus nothing_known line (map bare earlier))
-    (after_line cpus nothing_known line (earlier ++ r ∷ []) rs) (Some (r ∷ rs))
-    (after_line cpus nothing_known line (map bare earlier ++ bare r ∷ []) (map bare rs))
-    (Some (map bare (r ∷ rs))) (line_bare cpus nothing_known line earlier)
+    both_or_none (option_map (map bare)) _ _ (after_line cpus nothing_known line (earlier ++ r ∷ []) rs) _
+    (after_line cpus nothing_known line (map bare earlier ++ bare r ∷ []) (map bare rs)) _
+    (line_bare cpus nothing_known line earlier)
     (rw (← map-append bare earlier (r ∷ [])) (after_bare cpus line (earlier ++ r ∷ []) rs)) refl
 
 -- what the lines call next
@@ -144,11 +142,10 @@ pub next_bare : (cpus : ℕ) (known : Known) (lines : List Step) (receipts : Lis
 next_bare cpus known [] receipts = refl
 next_bare cpus known (line ∷ lines) receipts =
     rw (any_known cpus known line [] receipts, ← after_bare cpus line [] receipts)
-    (elim (after_line cpus nothing_known line [] receipts) as (λ o. option_map erased
-    (option_map_or (λ rest. next_in cpus known lines rest) o (line_next cpus known line receipts))
-    ≡ option_map erased (option_map_or (λ rest. next_in cpus nothing_known lines rest)
-    (option_map (map bare) o) (line_next cpus nothing_known line (map bare receipts))))
-    [ None ↦ line_bare cpus known line receipts | Some rest ↦ next_bare cpus known lines rest ])
+    (elim (cases_option (after_line cpus nothing_known line [] receipts)) [
+      | inl none ↦ rw none (line_bare cpus known line receipts)
+      | inr rest ↦ rw rest.1 (next_bare cpus known lines rest.0)
+    ])
 
 -- ---- answers
 
@@ -168,11 +165,13 @@ pub ends_bare : (cpus : ℕ) (lines : List Step) (receipts : List Receipt)
 ends_bare cpus [] receipts = refl
 ends_bare cpus (line ∷ lines) receipts =
     rw (← after_bare cpus line [] receipts)
-    (elim (after_line cpus nothing_known line [] receipts) as (λ o. ends_answered (option_map_or
-    (λ rest. answer_of line (without receipts rest) ∷ answers_in cpus lines rest) o [])
-    ≡ ends_answered (option_map_or (λ rest. answer_of line (without (map bare receipts) rest)
-    ∷ answers_in cpus lines rest) (option_map (map bare) o) [])) [
-      | None ↦ refl
-      | Some rest ↦
-          rw (answer_bare line (without receipts rest), without_bare receipts rest, ends_bare cpus lines rest)
+    (elim (cases_option (after_line cpus nothing_known line [] receipts)) [
+      | inl none ↦ rw none
+      | inr rest ↦
+          rw (
+            rest.1,
+            answer_bare line (without receipts rest.0),
+            without_bare receipts rest.0,
+            ends_bare cpus lines rest.0,
+          )
     ])

@@ -3,7 +3,6 @@ mod Below
 pub mod Marking
 pub mod MarksMade
 pub mod Places
-pub mod PlansMet
 pub mod Played
 pub mod Reading
 pub mod SameMarks

@@ -1,6 +1,5 @@
 -- What the replies so far have, and what ends that go on from them have.
 use Rattle.std.proofs.Common.{◌≡◌, ℕ, zero, suc, ◌+◌, ◌<◌, true, false, not, List, [], ◌∷◌, ◌++◌, get_or, length, take, eqb, Option, Some, None, slice_get, refl, ap, sym, subst, ◌∙◌, arith, inl, inr}
-use Rattle.std.specs.Prelude.{◌⊎◌, ◌↔◌}
 use Rattle.std.proofs.lemmas.Bool.{not-false, not-true}
 use Rattle.std.proofs.lemmas.List.{length_push, map-append}
 use Rattle.std.proofs.lemmas.List.Elements.{filter-append}
@@ -11,14 +10,13 @@ use Rattle.hp_units.specs.LayoutParts.{LayoutParts}
 use Rattle.hp_units.specs.Memory.{Memory}
 use Rattle.hp_units.specs.declared.replies.Record.{Record}
 use Rattle.hp_units.specs.declared.replies.Reply.{Reply}
-use Rattle.hp_units.specs.declared.rows.Row.{Row}
 use Rattle.hp_schedules.specs.Outcomes.{ended_rows_below, outcome, replies_below, replies_to, told}
 use Rattle.hp_schedules.specs.declared.scripts.Step.{Step}
 use Rattle.hp_schedules.proofs.Compared.{replies_own, replies_past}
 use Rattle.hp_questions.specs.Marks.{AreMarks, HasLineSoFar, HasReplySoFar, IsLost, IsMissed, IsRuledOut, PlansGoOn, asks_no_places, asks_no_plans, leaves_places, leaves_plans, line_of}
 use Rattle.hp_questions.specs.PlanEnds.{plan_ends_of}
 use Rattle.hp_questions.specs.PlanLines.{HasEnd, IsEndAsWanted}
-use Rattle.hp_questions.specs.Wanted.{HasAnswerAt, HasLine, HasReply, HasReplyAt, IsMetBy, Meets}
+use Rattle.hp_questions.specs.Wanted.{HasLine, HasReply, HasReplyAt, IsMetBy, Meets}
 use Rattle.hp_questions.specs.Patterns.{IsAsWanted}
 use Rattle.hp_questions.specs.declared.plan_lines.EndPattern.{EndPattern}
 use Rattle.hp_questions.specs.declared.wanted.EndLine.{EndLine}
@@ -120,14 +118,22 @@ reply_kept p earlier h more cpu has = (
   has.2,
 )
 
-at_kept : (p : Pattern) (n : ℕ) (h more : List Record) (cpu earlier : ℕ)
-    → HasAnswerAt p (replies_below n h) cpu earlier → HasAnswerAt p (replies_below n (h ++ more)) cpu earlier
-at_kept p n h more cpu earlier =
-    among_kept (λ replies. HasReplyAt p replies earlier) n (λ c. replies_to c h)
-    (λ c. replies_to c (h ++ more)) (λ c less. reply_kept p earlier h more c) (Some cpu)
+-- ---- lines
 
-module _ (n : ℕ) (h k more : List Record) where
-  -- what the further records bring on the one side, they bring on the other
+-- what the replies so far have, each end that goes on from them has
+line_kept : (cpus : ℕ) (scripts : List (List Step)) (n : ℕ) (h more : List Record) (l : LayoutParts)
+    (s : Memory) (line : EndLine)
+    → HasReplySoFar n h line → HasLine cpus scripts (outcome n (h ++ more) l s) line
+line_kept cpus scripts n h more l s (Answer None reply) has = replies_kept reply n h more None has
+line_kept cpus scripts n h more l s (Answer (Some cpu) reply) has = replies_kept reply n h more (Some cpu) has
+line_kept cpus scripts n h more l s (AnswerAt cpu earlier reply) has =
+    among_kept (λ replies. HasReplyAt reply replies earlier) n (λ c. replies_to c h)
+    (λ c. replies_to c (h ++ more)) (λ c less. reply_kept reply earlier h more c) (Some cpu) has
+line_kept cpus scripts n h more l s line has = absurd has
+
+-- what the further records bring on the one side, they bring on the other
+module _ (cpus : ℕ) (scripts : List (List Step)) (n : ℕ) (h k more : List Record) (l : LayoutParts)
+    (s t : Memory) where
   replies_carried : (p : Pattern) (cpu : Option ℕ)
       → (Among (HasReply p) (λ (c : ℕ). replies_to c h) n cpu
       → Among (HasReply p) (λ (c : ℕ). replies_to c k) n cpu)
@@ -138,104 +144,66 @@ module _ (n : ℕ) (h k more : List Record) where
       (λ c. replies_to c (h ++ more)) (λ c. replies_to c (k ++ more))
       (λ c less. (replies_to c more, replies_append c h more, replies_append c k more))
 
-  plans_carried : (end : EndPattern) (cpus : ℕ) (scripts : List (List Step)) (cpu : Option ℕ)
-      → PlansGoOn cpus scripts n h k more
+  plans_carried : (end : EndPattern) (cpu : Option ℕ) → PlansGoOn cpus scripts n h k more
       → (Among (HasEnd end) (plan_ends_of cpus scripts (replies_below n h)) (length scripts) cpu
       → Among (HasEnd end) (plan_ends_of cpus scripts (replies_below n k)) (length scripts) cpu)
       → Among (HasEnd end) (plan_ends_of cpus scripts (replies_below n (h ++ more))) (length scripts) cpu
       → Among (HasEnd end) (plan_ends_of cpus scripts (replies_below n (k ++ more))) (length scripts) cpu
-  plans_carried end cpus scripts cpu on =
+  plans_carried end cpu on =
       grown_carried (IsEndAsWanted end) (length scripts) (plan_ends_of cpus scripts (replies_below n h))
       (plan_ends_of cpus scripts (replies_below n k))
       (plan_ends_of cpus scripts (replies_below n (h ++ more)))
       (plan_ends_of cpus scripts (replies_below n (k ++ more))) on cpu
 
-  -- so it is of the reply at a place, where each processor got as many replies
-  at_carried : (p : Pattern) (cpu earlier : ℕ)
-      → ((c : ℕ) → c < n → length (replies_to c h) ≡ length (replies_to c k))
-      → (HasAnswerAt p (replies_below n h) cpu earlier → HasAnswerAt p (replies_below n k) cpu earlier)
-      → HasAnswerAt p (replies_below n (h ++ more)) cpu earlier
-      → HasAnswerAt p (replies_below n (k ++ more)) cpu earlier
-  at_carried p cpu earlier as_many =
-      among_carried (λ replies. HasReplyAt p replies earlier) n (λ c. replies_to c h) (λ c. replies_to c k)
-      (λ c. replies_to c (h ++ more)) (λ c. replies_to c (k ++ more))
+  -- with the same marks, lines of one end are lines of the other
+  line_carried : (line : EndLine)
+      → (leaves_places line ≡ false
+      → (cpu : ℕ) → cpu < n → length (replies_to cpu h) ≡ length (replies_to cpu k))
+      → (leaves_plans line ≡ false → PlansGoOn cpus scripts n h k more)
+      → (HasLineSoFar cpus scripts n h line → HasLineSoFar cpus scripts n k line)
+      → ended_rows_below l.blocks s ≡ ended_rows_below l.blocks t
+      → HasLine cpus scripts (outcome n (h ++ more) l s) line
+      → HasLine cpus scripts (outcome n (k ++ more) l t) line
+  line_carried (Answer None reply) as_many on so_far rows = replies_carried reply None so_far
+  line_carried (Answer (Some cpu) reply) as_many on so_far rows = replies_carried reply (Some cpu) so_far
+  line_carried (AnswerAt cpu earlier reply) as_many on so_far rows =
+      among_carried (λ replies. HasReplyAt reply replies earlier) n (λ c. replies_to c h)
+      (λ c. replies_to c k) (λ c. replies_to c (h ++ more)) (λ c. replies_to c (k ++ more))
       (λ c less has. elim (get_append_cases (replies_to c h) (replies_to c more) earlier has.0
       (rw (replies_append c h more) at has.1)) [
         | inl at ↦ inl (has.0, at, has.2)
         | inr past ↦
             inr (
               has.0,
-              rw (replies_append c k more, past.sum, as_many c less)
+              rw (replies_append c k more, past.sum, as_many refl c less)
                   (get_right (replies_to c k) (replies_to c more) past.place ∙ past.here),
               has.2,
             )
       ])
-      (λ c less. reply_kept p earlier k more c) (Some cpu)
+      (λ c less. reply_kept reply earlier k more c) (Some cpu) so_far
+  line_carried (Plan None end) as_many on so_far rows = plans_carried end None (on refl) so_far
+  line_carried (Plan (Some cpu) end) as_many on so_far rows = plans_carried end (Some cpu) (on refl) so_far
+  line_carried (Block block row) as_many on so_far rows = λ has. rw (← rows) has
 
--- ---- lines
-
--- what the replies so far have, each end that goes on from them has
-line_kept : (cpus : ℕ) (scripts : List (List Step)) (n : ℕ) (h more : List Record) (l : LayoutParts)
-    (s : Memory) (line : EndLine)
-    → HasReplySoFar n h line → HasLine cpus scripts (outcome n (h ++ more) l s) line
-line_kept cpus scripts n h more l s (Answer None reply) has = replies_kept reply n h more None has
-line_kept cpus scripts n h more l s (Answer (Some cpu) reply) has = replies_kept reply n h more (Some cpu) has
-line_kept cpus scripts n h more l s (AnswerAt cpu earlier reply) has = at_kept reply n h more cpu earlier has
-line_kept cpus scripts n h more l s line has = absurd has
-
--- with the same marks, lines of one end are lines of the other
-line_carried : (cpus : ℕ) (scripts : List (List Step)) (n : ℕ) (h k more : List Record) (l : LayoutParts)
-    (s t : Memory) (line : EndLine)
-    → (leaves_places line ≡ false
-    → (cpu : ℕ) → cpu < n → length (replies_to cpu h) ≡ length (replies_to cpu k))
-    → (leaves_plans line ≡ false → PlansGoOn cpus scripts n h k more)
-    → (HasLineSoFar cpus scripts n h line → HasLineSoFar cpus scripts n k line)
-    → ended_rows_below l.blocks s ≡ ended_rows_below l.blocks t
-    → HasLine cpus scripts (outcome n (h ++ more) l s) line
-    → HasLine cpus scripts (outcome n (k ++ more) l t) line
-line_carried cpus scripts n h k more l s t (Answer None reply) as_many on so_far rows has =
-    replies_carried n h k more reply None so_far has
-line_carried cpus scripts n h k more l s t (Answer (Some cpu) reply) as_many on so_far rows has =
-    replies_carried n h k more reply (Some cpu) so_far has
-line_carried cpus scripts n h k more l s t (AnswerAt cpu earlier reply) as_many on so_far rows has =
-    at_carried n h k more reply cpu earlier (as_many refl) so_far has
-line_carried cpus scripts n h k more l s t (Plan None end) as_many on so_far rows has =
-    plans_carried n h k more end cpus scripts None (on refl) so_far has
-line_carried cpus scripts n h k more l s t (Plan (Some cpu) end) as_many on so_far rows has =
-    plans_carried n h k more end cpus scripts (Some cpu) (on refl) so_far has
-line_carried cpus scripts n h k more l s t (Block block row) as_many on so_far rows has =
-    ap (λ (xs : List Row). slice_get xs block) (sym rows) ∙ has
-
--- ---- the same marks
-
--- a wanted line of one end is a line of the other
-line_same : (cpus : ℕ) (scripts : List (List Step)) (wanted : List Wanted) (n : ℕ)
-    (h k more : List Record) (marks : List ℕ) (l : LayoutParts) (s t : Memory)
-    → AreMarks cpus scripts wanted n h marks → AreMarks cpus scripts wanted n k marks
-    → (asks_no_plans wanted ≡ false → PlansGoOn cpus scripts n h k more)
-    → ended_rows_below l.blocks s ≡ ended_rows_below l.blocks t
-    → (i : ℕ) (one : Wanted) → slice_get wanted i ≡ Some one
-    → HasLine cpus scripts (outcome n (h ++ more) l s) (line_of one)
-    → HasLine cpus scripts (outcome n (k ++ more) l t) (line_of one)
-line_same cpus scripts wanted n h k more marks l s t a b on rows i one here =
-    line_carried cpus scripts n h k more l s t (line_of one)
-    (λ about. same_calls (asks_no_places wanted) n h k a.counts b.counts
-    (not_all (λ (w : Wanted). leaves_places (line_of w)) wanted i one here about)
-    same.1 a.counts_are b.counts_are)
-    (λ about. on (not_all (λ (w : Wanted). leaves_plans (line_of w)) wanted i one here about))
-    (λ has. y.2.0 (same_Some y.0 x.0 (sym y.1 ∙ (ap (λ (zs : List ℕ). slice_get zs i) (sym same.2) ∙ x.1))
-    ∙ x.2.1 has)) rows
-  where
-    same : (length h ≡ length k) × (a.counts ≡ b.counts) × (a.met ≡ b.met)
-    same = same_marks cpus scripts wanted n h k marks a b
-
-    x : (m : ℕ) × (slice_get a.met i ≡ Some m) × ((m ≡ 1) ↔ HasLineSoFar cpus scripts n h (line_of one))
-        × ((m ≡ 0) ⊎ (m ≡ 1))
-    x = a.met_are.1 i one (slice_get_within wanted i one here) here
-
-    y : (m : ℕ) × (slice_get b.met i ≡ Some m) × ((m ≡ 1) ↔ HasLineSoFar cpus scripts n k (line_of one))
-        × ((m ≡ 0) ⊎ (m ≡ 1))
-    y = b.met_are.1 i one (slice_get_within wanted i one here) here
+  -- a wanted line of one end is a line of the other
+  line_same : (wanted : List Wanted) (marks : List ℕ)
+      → AreMarks cpus scripts wanted n h marks → AreMarks cpus scripts wanted n k marks
+      → (asks_no_plans wanted ≡ false → PlansGoOn cpus scripts n h k more)
+      → ended_rows_below l.blocks s ≡ ended_rows_below l.blocks t
+      → (i : ℕ) (one : Wanted) → slice_get wanted i ≡ Some one
+      → HasLine cpus scripts (outcome n (h ++ more) l s) (line_of one)
+      → HasLine cpus scripts (outcome n (k ++ more) l t) (line_of one)
+  line_same wanted marks a b on rows i one here =
+      let same = same_marks cpus scripts wanted n h k marks a b in
+      let x = a.met_are.1 i one (slice_get_within wanted i one here) here in
+      let y = b.met_are.1 i one (slice_get_within wanted i one here) here in
+      line_carried (line_of one)
+      (λ about. same_calls (asks_no_places wanted) n h k a.counts b.counts
+      (not_all (λ (w : Wanted). leaves_places (line_of w)) wanted i one here about)
+      same.1 a.counts_are b.counts_are)
+      (λ about. on (not_all (λ (w : Wanted). leaves_plans (line_of w)) wanted i one here about))
+      (λ has. y.2.0 (same_Some y.0 x.0 (sym y.1 ∙ (ap (λ (zs : List ℕ). slice_get zs i) (sym same.2) ∙ x.1))
+      ∙ x.2.1 has)) rows
 
 -- equal marks and equal further records: ends that meet the same
 pub marks_meet : (cpus : ℕ) (scripts : List (List Step)) (wanted : List Wanted) (n : ℕ)
@@ -252,9 +220,9 @@ marks_meet cpus scripts wanted n h k more marks l s t a b on rows meets i one he
         → IsMetBy cpus scripts (outcome n (h ++ more) l s) one
         → IsMetBy cpus scripts (outcome n (k ++ more) l t) one
     by_kind (Has line) at has =
-        line_same cpus scripts wanted n h k more marks l s t a b on rows i (Has line) at has
+        line_same cpus scripts n h k more l s t wanted marks a b on rows i (Has line) at has
     by_kind (Lacks line) at lacks =
-        λ has. lacks (line_same cpus scripts wanted n k h more marks l t s b a
+        λ has. lacks (line_same cpus scripts n k h more l t s wanted marks b a
         (λ about cpu within. let later = on about cpu within in (later.0, later.2, later.1)) (sym rows) i
         (Lacks line) at has)
 
@@ -263,7 +231,6 @@ marks_meet cpus scripts wanted n h k more marks l s t a b on rows meets i one he
 missed : (cpus : ℕ) (scripts : List (List Step)) (n : ℕ) (h more : List Record) (l : LayoutParts)
     (s : Memory) (line : EndLine)
     → IsMissed h line → HasLine cpus scripts (outcome n (h ++ more) l s) line → ⊥
-missed cpus scripts n h more l s (Answer cpu reply) none has = none
 missed cpus scripts n h more l s (AnswerAt cpu earlier reply) other has =
     other.2 (subst (IsAsWanted reply) (same_Some has.2.0 other.0 (sym has.2.1 ∙ at)) has.2.2)
   where
@@ -272,8 +239,7 @@ missed cpus scripts n h more l s (AnswerAt cpu earlier reply) other has =
         rw ((below_is n (h ++ more) cpu has.0 has.1).1, replies_append cpu h more)
         (get_left (replies_to cpu h) (replies_to cpu more) earlier
         (slice_get_within (replies_to cpu h) earlier other.0 other.1) ∙ other.1)
-missed cpus scripts n h more l s (Plan cpu end) none has = none
-missed cpus scripts n h more l s (Block block row) none has = none
+missed cpus scripts n h more l s line none has = absurd none
 
 pub lost : (wanted : List Wanted) (n : ℕ) (h : List Record) (k : ℕ) (one : Wanted)
     → slice_get wanted k ≡ Some one → IsRuledOut n h one

@@ -1,18 +1,16 @@
 -- The marks of records, as they are written one by one.
-use Rattle.std.proofs.Common.{◌≡◌, ℕ, ◌+◌, ◌<◌, ◌≤◌, Bool, List, [], ◌∷◌, ◌++◌, length, map, Some, None, slice_get, refl, sym, subst, ◌∙◌, arith, inl, inr}
+use Rattle.std.proofs.Common.{◌≡◌, ℕ, ◌+◌, ◌<◌, ◌≤◌, Bool, List, [], ◌∷◌, ◌++◌, length, Some, None, slice_get, sym, subst, ◌∙◌, arith, inl, inr}
 use mir.Val.{bool_byte}
 use Rattle.std.specs.Prelude.{◌⊎◌, ◌↔◌, IsTrue}
-use Rattle.std.specs.List.{range_with_len}
 use Rattle.std.proofs.lemmas.Bool.{cases_lt}
 use Rattle.std.proofs.lemmas.List.{append_assoc, length_push}
-use Rattle.std.proofs.lemmas.List.FromFn.{map-range_with_len_more}
 use Rattle.std.proofs.lemmas.Option.{same_Some, slice_get_within}
 use Rattle.hp_laws.proofs.Lists.{get_end, get_left}
 use Rattle.hp_units.specs.declared.replies.Record.{Record}
 use Rattle.hp_units.specs.declared.replies.Reply.{Reply}
 use Rattle.hp_schedules.specs.Outcomes.{replies_below, replies_to, told}
 use Rattle.hp_schedules.specs.declared.scripts.Step.{Step}
-use Rattle.hp_questions.specs.Marks.{AreCountedIf, AreMarks, AreMet, HasLineSoFar, asks_no_places, line_of}
+use Rattle.hp_questions.specs.Marks.{AreMet, HasLineSoFar, line_of}
 use Rattle.hp_questions.specs.Wanted.{HasAnswerAt}
 use Rattle.hp_questions.specs.Patterns.{IsAsWanted}
 use Rattle.hp_questions.specs.declared.wanted.Pattern.{Pattern}
@@ -39,20 +37,6 @@ pub told_at_none : (p : Pattern) (n : ℕ) (news : List Record) (cpu earlier : �
 told_at_none p n news cpu earlier is has = grind (arith, below_is)
 
 -- ---- the marks are made
-
--- one processor more
-pub calls_more : (news : List Record) (cpu : ℕ) (old mid new : List ℕ) (n : ℕ)
-    → mid ≡ old ++ map (λ c. length (replies_to c news)) (range_with_len 0 cpu) → new ≡ mid ++ n ∷ []
-    → n ≡ length (replies_to cpu news)
-    → new ≡ old ++ map (λ c. length (replies_to c news)) (range_with_len 0 (cpu + 1))
-calls_more news cpu old mid new n so_far is many =
-    rw (
-      is,
-      so_far,
-      many,
-      map-range_with_len_more (λ (c : ℕ). length (replies_to c news)) 0 cpu cpu
-          (omega arith),
-    ) (simp append_assoc)
 
 -- one wanted line more
 one_or_none : (P : Type 0) (told : Bool) (n : ℕ) → n ≡ bool_byte told → (IsTrue told ↔ P)
@@ -89,16 +73,3 @@ met_more cpus scripts wanted processors news i one told n old mid new here so_fa
         let index : k ≡ i = omega (arith, past, less) in
         let same : other ≡ one = same_Some other one (sym at ∙ rw index here) in
         (n, rw place (get_end so_far.0 n), rw same last.0, last.1)
-
--- a list that is appended to another one
-pub marks_made : (cpus : ℕ) (scripts : List (List Step)) (wanted : List Wanted) (n : ℕ)
-    (news : List Record) (old all mid new counts met : List ℕ)
-    → all ≡ old ++ length news ∷ [] → mid ≡ all ++ counts → new ≡ mid ++ met
-    → AreCountedIf (asks_no_places wanted) n news counts
-    → AreMet cpus scripts wanted n news (length wanted) met
-    → (marks : List ℕ) × (new ≡ old ++ marks) × AreMarks cpus scripts wanted n news marks
-marks_made cpus scripts wanted n news old all mid new counts met all_is mid_is is counted are = (
-  length news ∷ (counts ++ met),
-  rw (is, mid_is, all_is) (simp append_assoc),
-  record { counts = counts; met = met; parts = refl; counts_are = counted; met_are = are },
-)

@@ -65,33 +65,23 @@ among_kept R n f g kept None has =
 among_kept R n f g kept (Some k) has =
     let is = range_is f n k has.0 has.1 in (g k, at_range g n k is.0, kept k is.0 (subst R is.1 has.2))
 
--- what has it later had it before, or got it
-among_cases : {A : Type 0} (R : A → Type 0) (n : ℕ) (f g h : ℕ → A)
-    → ((k : ℕ) → k < n → R (f k) → R (g k) ⊎ R (h k)) → (place : Option ℕ) → Among R f n place
-    → Among R g n place ⊎ Among R h n place
-among_cases R n f g h cases None has =
-    let is = range_is f n has.0 has.1 has.2 in
-    elim (cases has.0 is.0 (subst R is.1 has.3)) [
-      | inl x ↦ inl (has.0, g has.0, at_range g n has.0 is.0, x)
-      | inr x ↦ inr (has.0, h has.0, at_range h n has.0 is.0, x)
-    ]
-among_cases R n f g h cases (Some k) has =
-    let is = range_is f n k has.0 has.1 in
-    elim (cases k is.0 (subst R is.1 has.2)) [
-      | inl x ↦ inl (g k, at_range g n k is.0, x)
-      | inr x ↦ inr (h k, at_range h n k is.0, x)
-    ]
-
 -- `f` and `g` become `f_later` and `g_later`, and what got it on the one side got it on the other
 pub among_carried : {A : Type 0} (R : A → Type 0) (n : ℕ) (f g f_later g_later : ℕ → A)
     → ((k : ℕ) → k < n → R (f_later k) → R (f k) ⊎ R (g_later k))
     → ((k : ℕ) → k < n → R (g k) → R (g_later k))
     → (place : Option ℕ) → (Among R f n place → Among R g n place)
     → Among R f_later n place → Among R g_later n place
-among_carried R n f g f_later g_later cases kept place so_far has =
-    elim (among_cases R n f_later f g_later cases place has) [
-      | inl x ↦ among_kept R n g g_later kept place (so_far x)
-      | inr x ↦ x
+among_carried R n f g f_later g_later cases kept None so_far has =
+    let is = range_is f_later n has.0 has.1 has.2 in
+    elim (cases has.0 is.0 (subst R is.1 has.3)) [
+      | inl x ↦ among_kept R n g g_later kept None (so_far (has.0, f has.0, at_range f n has.0 is.0, x))
+      | inr x ↦ (has.0, g_later has.0, at_range g_later n has.0 is.0, x)
+    ]
+among_carried R n f g f_later g_later cases kept (Some k) so_far has =
+    let is = range_is f_later n k has.0 has.1 in
+    elim (cases k is.0 (subst R is.1 has.2)) [
+      | inl x ↦ among_kept R n g g_later kept (Some k) (so_far (f k, at_range f n k is.0, x))
+      | inr x ↦ (g_later k, at_range g_later n k is.0, x)
     ]
 
 -- lists that grow by the same items on both sides
@@ -107,5 +97,4 @@ grown_carried Q n f g f_later g_later grown =
       | inl x ↦ inl x
       | inr x ↦ inr (subst (HasOne Q) (sym more.2) (one_right Q (g k) more.0 x))
     ])
-    (λ k less has.
-    let more = grown k less in subst (HasOne Q) (sym more.2) (one_left Q (g k) more.0 has))
+    (λ k less has. let more = grown k less in subst (HasOne Q) (sym more.2) (one_left Q (g k) more.0 has))

@@ -1,7 +1,7 @@
 -- After a schedule, the replies to a processor say of its plans what its receipts say.
-use Rattle.std.proofs.Common.{◌≡◌, ℕ, Bool, true, false, cond, List, [], ◌∷◌, ◌++◌, map, eqb, Option, Some, None, slice_get, refl}
+use Rattle.std.proofs.Common.{◌≡◌, ℕ, Bool, true, false, cond, List, [], ◌∷◌, ◌++◌, map, eqb, Some, slice_get, inl, inr, refl}
 use Rattle.std.specs.Prelude.{option_map}
-use Rattle.std.proofs.lemmas.Bool.{eqb-true}
+use Rattle.std.proofs.lemmas.Bool.{cases_Bool, eqb-true}
 use Rattle.std.proofs.lemmas.List.{append-nil, map-append}
 use Rattle.std.proofs.lemmas.List.Sums.{fold-append}
 use Rattle.std.proofs.lemmas.Option.{none-some, same_Some}
@@ -17,6 +17,7 @@ use Rattle.hp_schedules.specs.Outcomes.{replies_to, told}
 use Rattle.hp_schedules.specs.Schedules.{Setting, next_call, plays, record_of_call}
 use Rattle.hp_schedules.specs.Scripts.{known_of, next_of}
 use Rattle.hp_schedules.specs.declared.scripts.Step.{Step}
+use Rattle.hp_laws.proofs.Options.{cases_option}
 use Rattle.hp_schedules.proofs.AnswersAt.{of_script}
 use Rattle.hp_schedules.proofs.Plays.{from_news, stays_none}
 use Rattle.hp_schedules.proofs.Steps.{receipts_push}
@@ -44,17 +45,11 @@ called_more : (cpus : ℕ) (lines : List Step) (xs ys : List Receipt) (x : Recei
     → map bare xs ≡ map bare ys → next_of cpus lines xs ≡ Some x.event
     → map bare (xs ++ x ∷ []) ≡ map bare (with_reply cpus lines ys (told x.reply))
 called_more cpus lines xs ys x same asked =
-    by_next next.0 next.1 (same_Some (erased x.event) (erased next.0) (rw next.1 at erasure))
-  where
-    erasure : Some (erased x.event) ≡ option_map erased (next_of cpus lines ys)
-    erasure = rw (← same_next cpus lines xs ys same, asked)
-
-    next : (d : Event) × (next_of cpus lines ys ≡ Some d)
-    next = some_erased (next_of cpus lines ys) (erased x.event) erasure
-
-    by_next : (d : Event) → next_of cpus lines ys ≡ Some d → erased x.event ≡ erased d
-        → map bare (xs ++ x ∷ []) ≡ map bare (with_reply cpus lines ys (told x.reply))
-    by_next d is alike = rw (is, map-append bare xs (x ∷ []), map-append, same, alike, told_twice x.reply)
+    let erasure : Some (erased x.event) ≡ option_map erased (next_of cpus lines ys) =
+    rw (← same_next cpus lines xs ys same, asked) in
+    let next = some_erased (next_of cpus lines ys) (erased x.event) erasure in
+    let alike = same_Some (erased x.event) (erased next.0) (rw next.1 at erasure) in
+    rw (next.1, map-append bare xs (x ∷ []), map-append, same, ← alike, told_twice x.reply)
 
 -- a processor's receipts agree with those by its replies, but for the numbers
 abbrev AgreesAt : Setting → List Record → (cpu : ℕ) → List Step → Type 0
@@ -66,27 +61,26 @@ agrees_more : (g : Setting) (h : List Record) (c : ℕ) (e : Event) → next_cal
     → (cpu : ℕ) (lines : List Step) → slice_get g.scripts cpu ≡ Some lines
     → AgreesAt g (h ++ record_of_call g h c e ∷ []) cpu lines
 unfolding record_of_call next_call
-agrees_more g h c e asked so_far cpu lines here = by_owner (eqb c cpu) refl (so_far cpu lines here)
-  where
-    by_owner : (b : Bool) → eqb c cpu ≡ b → AgreesAt g h cpu lines
-        → AgreesAt g (h ++ record_of_call g h c e ∷ []) cpu lines
-    by_owner true own before =
-        rw (
-          receipts_push cpu h (record_of_call g h c e) true own,
-          replies_push cpu h (record_of_call g h c e) true own,
-          fold-append (with_reply g.layout.cpus lines) [] (replies_to cpu h)
-              (told (record_of_call g h c e).reply ∷ []),
-        )
-        (called_more g.layout.cpus lines (receipts_of cpu h)
-        (receipts_by g.layout.cpus lines (replies_to cpu h)) (receipt_of (record_of_call g h c e)) before
-        (rw (here) at (rw (eqb-true c cpu own) at asked)))
-    by_owner false other before =
-        rw (
-          receipts_push cpu h (record_of_call g h c e) false other,
-          replies_push cpu h (record_of_call g h c e) false other,
-          append-nil (receipts_of cpu h),
-          append-nil (replies_to cpu h),
-        ) before
+agrees_more g h c e asked so_far cpu lines here = elim (cases_Bool (eqb c cpu)) [
+  | inl own ↦
+      rw (
+        receipts_push cpu h (record_of_call g h c e) true own,
+        replies_push cpu h (record_of_call g h c e) true own,
+        fold-append (with_reply g.layout.cpus lines) [] (replies_to cpu h)
+            (told (record_of_call g h c e).reply ∷ []),
+      )
+      (called_more g.layout.cpus lines (receipts_of cpu h)
+      (receipts_by g.layout.cpus lines (replies_to cpu h)) (receipt_of (record_of_call g h c e))
+      (so_far cpu lines here) (rw here at (rw (eqb-true c cpu own) at asked)))
+  | inr other ↦
+      rw (
+        receipts_push cpu h (record_of_call g h c e) false other,
+        replies_push cpu h (record_of_call g h c e) false other,
+        append-nil (receipts_of cpu h),
+        append-nil (replies_to cpu h),
+      )
+      (so_far cpu lines here)
+]
 
 agrees_on : (g : Setting) (rest : List ℕ) (h end : List Record)
     → ((cpu : ℕ) (lines : List Step) → slice_get g.scripts cpu ≡ Some lines → AgreesAt g h cpu lines)
@@ -94,16 +88,12 @@ agrees_on : (g : Setting) (rest : List ℕ) (h end : List Record)
     → (cpu : ℕ) (lines : List Step) → slice_get g.scripts cpu ≡ Some lines → AgreesAt g end cpu lines
 agrees_on g [] h end so_far is cpu lines here = rw (← same_Some h end is) (so_far cpu lines here)
 agrees_on g (c ∷ rest) h end so_far is cpu lines here =
-    by_call (next_call g c h) refl
-    (λ e asked on. agrees_on g rest (h ++ record_of_call g h c e ∷ []) end
-    (agrees_more g h c e asked so_far) on cpu lines here)
-  where
-    by_call : (o : Option Event) → next_call g c h ≡ o
-        → ((e : Event) → next_call g c h ≡ Some e
-        → from_news g (h ++ record_of_call g h c e ∷ []) rest ≡ Some end → AgreesAt g end cpu lines)
-        → AgreesAt g end cpu lines
-    by_call None asked later = absurd (none-some end (rw (asked, stays_none g rest) at is))
-    by_call (Some e) asked later = later e asked (rw asked at is)
+    elim (cases_option (next_call g c h)) [
+      | inl none ↦ absurd (none-some end (rw (none, stays_none g rest) at is))
+      | inr e ↦
+          agrees_on g rest (h ++ record_of_call g h c e.0 ∷ []) end (agrees_more g h c e.0 e.1 so_far)
+          (rw e.1 at is) cpu lines here
+    ]
 
 pub ends_are_answers : (g : Setting) (schedule : List ℕ) (news : List Record) (cpu : ℕ) (lines : List Step)
     → plays g schedule ≡ Some news → slice_get g.scripts cpu ≡ Some lines

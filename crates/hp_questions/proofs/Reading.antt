@@ -51,6 +51,17 @@ setting_for cpus scripts = record {
   scripts = scripts;
 }
 
+-- the ends with further answers, and with one more
+pub ends_append : (answers later : List (Option LineAnswer))
+    → ends_answered (answers ++ later) ≡ ends_answered answers ++ ends_answered later
+ends_append [] later = refl
+ends_append (x ∷ answers) later = simp (ends_append answers later, append_assoc)
+
+ends_more : (old new : List (Option LineAnswer)) (f : Option FinishedLine) → IsAnswered old f new
+    → ends_answered new ≡ ends_answered old ++ option_to_list (end_finished f)
+ends_more old new None same = rw (same, append-nil)
+ends_more old new (Some f) is = rw (is.1, ends_append old (f.answer ∷ []), append-nil)
+
 -- ---- the replies so far
 
 -- the record of a call, without a serial
@@ -65,78 +76,68 @@ pub record IsRead (cpus : ℕ) (scripts : List (List Step)) (cpu : ℕ) (cursors
   pub receipts : receipts_of cpu news ≡ receipts_by cpus (get_or scripts cpu []) replies
   pub ends_are : ends ≡ plan_ends cpus (get_or scripts cpu []) replies
 
-pub read_none : (cpus : ℕ) (scripts : List (List Step)) (cpu : ℕ) (cursors : List Cursor)
-    (ends : List OpEnd)
-    → length cursors ≡ length scripts
-    → ((g : Setting) → g.scripts ≡ scripts → g.layout.cpus ≡ cpus → AreCursors g [] cursors) → ends ≡ []
-    → IsRead cpus scripts cpu cursors [] [] ends
-unfolding plan_ends
-read_none cpus scripts cpu cursors ends many begun none = record {
-  many = many;
-  at = begun;
-  receipts = refl;
-  ends_are = none ∙ ap ends_answered (sym (none_begun cpus (get_or scripts cpu [])));
-}
+module _ (cpus : ℕ) (scripts : List (List Step)) (cpu : ℕ) where
+  pub read_none : (cursors : List Cursor) (ends : List OpEnd) → length cursors ≡ length scripts
+      → ((g : Setting) → g.scripts ≡ scripts → g.layout.cpus ≡ cpus → AreCursors g [] cursors) → ends ≡ []
+      → IsRead cpus scripts cpu cursors [] [] ends
+  unfolding plan_ends
+  read_none cursors ends many begun none = record {
+    many = many;
+    at = begun;
+    receipts = refl;
+    ends_are = none ∙ ap ends_answered (sym (none_begun cpus (get_or scripts cpu [])));
+  }
 
--- what the script calls next
-asked_for : (cpus : ℕ) (scripts : List (List Step)) (cpu : ℕ) (news : List Record) (next : Option Event)
-    → cpu < length scripts → next_call (setting_for cpus scripts) cpu news ≡ next
-    → next_of cpus (get_or scripts cpu []) (receipts_of cpu news) ≡ next
-unfolding next_call
-asked_for cpus scripts cpu news next within is = rw (slice_get-get_or scripts cpu [] within) at is
+  abbrev lines : List Step
+  lines = get_or scripts cpu []
 
--- the script is over
-pub read_past : (cpus : ℕ) (scripts : List (List Step)) (cpu : ℕ) (cursors : List Cursor)
-    (news : List Record) (replies : List Reply) (ends : List OpEnd) (reply : Reply)
-    → cpu < length scripts → (a : IsRead cpus scripts cpu cursors news replies ends)
-    → ((g : Setting) → g.scripts ≡ scripts → g.layout.cpus ≡ cpus
-    → AreCursors g news cursors → IsCalledFor g cpu news None)
-    → IsRead cpus scripts cpu cursors news (replies ++ reply ∷ []) ends
-unfolding plan_ends
-read_past cpus scripts cpu cursors news replies ends reply within a asked =
-    record { many = a.many; at = a.at; receipts = rw same a.receipts; ends_are = rw same a.ends_are }
-  where
-    lines : List Step
-    lines = get_or scripts cpu []
+  abbrev g : Setting
+  g = setting_for cpus scripts
 
-    over : next_of cpus lines (receipts_by cpus lines replies) ≡ None
-    over =
-        rw (← a.receipts) (asked_for cpus scripts cpu news None within
-        (asked (setting_for cpus scripts) refl refl (a.at (setting_for cpus scripts) refl refl)))
+  module _ (cursors : List Cursor) (news : List Record) (replies : List Reply) (ends : List OpEnd)
+      (reply : Reply) (within : cpu < length scripts)
+      (a : IsRead cpus scripts cpu cursors news replies ends) where
+    here : slice_get scripts cpu ≡ Some lines
+    here = slice_get-get_or scripts cpu [] within
 
-    same : receipts_by cpus lines (replies ++ reply ∷ []) ≡ receipts_by cpus lines replies
-    same = rw (fold-append (with_reply cpus lines) [] replies (reply ∷ []), over)
+    -- what the script calls next
+    asked_for : (next : Option Event) → next_call g cpu news ≡ next
+        → next_of cpus lines (receipts_by cpus lines replies) ≡ next
+    unfolding next_call
+    asked_for next is = rw (← a.receipts) (rw here at is)
 
--- the ends with further answers, and with one more
-pub ends_append : (answers later : List (Option LineAnswer))
-    → ends_answered (answers ++ later) ≡ ends_answered answers ++ ends_answered later
-ends_append [] later = refl
-ends_append (x ∷ answers) later = simp (ends_append answers later, append_assoc)
+    -- the receipts with one reply more
+    receipts_more : receipts_by cpus lines (replies ++ reply ∷ [])
+        ≡ with_reply cpus lines (receipts_by cpus lines replies) reply
+    receipts_more = fold-append (with_reply cpus lines) [] replies (reply ∷ [])
 
-ends_more : (old new : List (Option LineAnswer)) (f : Option FinishedLine) → IsAnswered old f new
-    → ends_answered new ≡ ends_answered old ++ option_to_list (end_finished f)
-ends_more old new None same = rw (same, append-nil)
-ends_more old new (Some f) is = rw (is.1, ends_append old (f.answer ∷ []), append-nil)
+    -- the script is over
+    pub read_past : ((g : Setting) → g.scripts ≡ scripts → g.layout.cpus ≡ cpus
+        → AreCursors g news cursors → IsCalledFor g cpu news None)
+        → IsRead cpus scripts cpu cursors news (replies ++ reply ∷ []) ends
+    unfolding plan_ends
+    read_past asked =
+        let over = asked_for None (asked g refl refl (a.at g refl refl)) in
+        let same : receipts_by cpus lines (replies ++ reply ∷ []) ≡ receipts_by cpus lines replies =
+        rw (receipts_more, over) in
+        record { many = a.many; at = a.at; receipts = rw same a.receipts; ends_are = rw same a.ends_are }
 
--- one call more
-pub read_more : (cpus : ℕ) (scripts : List (List Step)) (cpu : ℕ) (cursors later : List Cursor)
-    (news : List Record) (replies : List Reply) (ends new : List OpEnd) (reply : Reply) (call : NextCall)
-    (event : Event) (f : Option FinishedLine)
-    → cpu < length scripts → (a : IsRead cpus scripts cpu cursors news replies ends) → event ≡ call.event
-    → ((g : Setting) → g.scripts ≡ scripts → g.layout.cpus ≡ cpus
-    → AreCursors g news cursors → IsCalledFor g cpu news (Some call))
-    → length later ≡ length cursors
-    → ((g : Setting) (news : List Record) → g.scripts ≡ scripts → g.layout.cpus ≡ cpus
-    → AreCursors g news cursors → IsCalledFor g cpu news (Some call)
-    → AreCursors g (news ++ called cpu event reply ∷ []) later)
-    → ((g : Setting) (news : List Record) → g.scripts ≡ scripts → next_call g cpu news ≡ Some event
-    → AreCursors g (news ++ called cpu event reply ∷ []) later
-    → IsAnswered (answers_at g cpu news) f (answers_at g cpu (news ++ called cpu event reply ∷ [])))
-    → new ≡ ends ++ option_to_list (end_finished f)
-    → IsRead cpus scripts cpu later (news ++ called cpu event reply ∷ []) (replies ++ reply ∷ []) new
-unfolding plan_ends
-read_more cpus scripts cpu cursors later news replies ends new reply call event f within a event_is asked many
-    on answered new_is = record {
+    -- one call more
+    pub read_more : (later : List Cursor) (new : List OpEnd) (call : NextCall) (event : Event)
+        (f : Option FinishedLine) → event ≡ call.event
+        → ((g : Setting) → g.scripts ≡ scripts → g.layout.cpus ≡ cpus
+        → AreCursors g news cursors → IsCalledFor g cpu news (Some call))
+        → length later ≡ length cursors
+        → ((g : Setting) (news : List Record) → g.scripts ≡ scripts → g.layout.cpus ≡ cpus
+        → AreCursors g news cursors → IsCalledFor g cpu news (Some call)
+        → AreCursors g (news ++ called cpu event reply ∷ []) later)
+        → ((g : Setting) (news : List Record) → g.scripts ≡ scripts → next_call g cpu news ≡ Some event
+        → AreCursors g (news ++ called cpu event reply ∷ []) later
+        → IsAnswered (answers_at g cpu news) f (answers_at g cpu (news ++ called cpu event reply ∷ [])))
+        → new ≡ ends ++ option_to_list (end_finished f)
+        → IsRead cpus scripts cpu later (news ++ called cpu event reply ∷ []) (replies ++ reply ∷ []) new
+    unfolding plan_ends
+    read_more later new call event f event_is asked many on answered new_is = record {
       many = many ∙ a.many;
       at = λ g s c. on g news s c (a.at g s c) (asked g s c (a.at g s c));
       receipts = receipts;
@@ -147,34 +148,24 @@ read_more cpus scripts cpu cursors later news replies ends new reply call event 
             ← receipts,
             ← a.receipts,
             ← of_script g cpu news lines here,
-            ← of_script g cpu (news ++ called cpu event reply ∷ []) lines here,
+            ← of_script g cpu all lines here,
           )
-          (sym (ends_more (answers_at g cpu news) (answers_at g cpu (news ++ called cpu event reply ∷ [])) f
+          (sym (ends_more (answers_at g cpu news) (answers_at g cpu all) f
           (answered g news refl next (on g news refl refl (a.at g refl refl)
           (asked g refl refl (a.at g refl refl))))));
     }
-  where
-    lines : List Step
-    lines = get_or scripts cpu []
+      where
+        all : List Record
+        all = news ++ called cpu event reply ∷ []
 
-    g : Setting
-    g = setting_for cpus scripts
+        next : next_call g cpu news ≡ Some event
+        next = rw event_is (asked g refl refl (a.at g refl refl)).0
 
-    here : slice_get scripts cpu ≡ Some lines
-    here = slice_get-get_or scripts cpu [] within
-
-    next : next_call g cpu news ≡ Some event
-    next = rw event_is (asked g refl refl (a.at g refl refl)).0
-
-    call_next : next_of cpus lines (receipts_by cpus lines replies) ≡ Some event
-    call_next = rw (← a.receipts) (asked_for cpus scripts cpu news (Some event) within next)
-
-    receipts : receipts_of cpu (news ++ called cpu event reply ∷ [])
-        ≡ receipts_by cpus lines (replies ++ reply ∷ [])
-    receipts =
-        rw (
-          receipts_own news (called cpu event reply),
-          a.receipts,
-          fold-append (with_reply cpus lines) [] replies (reply ∷ []),
-          call_next,
-        )
+        receipts : receipts_of cpu all ≡ receipts_by cpus lines (replies ++ reply ∷ [])
+        receipts =
+            rw (
+              receipts_own news (called cpu event reply),
+              a.receipts,
+              receipts_more,
+              asked_for (Some event) next,
+            )

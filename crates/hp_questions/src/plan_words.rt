@@ -6,7 +6,7 @@ ghost use Rattle.hp_questions.specs.WantedLines as says;
 use crate::plan_lines::EndPattern;
 use crate::reply_words::refusal_pattern;
 use crate::wanted::{EndLine, Pattern};
-use crate::wanted_lines::split_words;
+use hp_scenario::split_words;
 use hp_units::{Cpu, number32};
 use std::alloc::{AllocError, Global};
 

@@ -10,6 +10,7 @@ use crate::block_words::block_from;
 use crate::plan_words::{own_plan_line, plan_line};
 use crate::reply_words::reply_pattern;
 use crate::wanted::{EndLine, Pattern, Wanted};
+use hp_scenario::split_words;
 use hp_units::{Cpu, number32, number64};
 use std::alloc::{AllocError, Global};
 
@@ -66,14 +67,6 @@ fn split_parts<'a>(parts: &mut Vec<&'a str>, text: &'a str) -> Result<(), AllocE
 {
     parts.clear();
     parts.extend(text.split(':'))
-}
-
-/// Splits the text at its spaces into `words`.
-pub(crate) fn split_words<'a>(words: &mut Vec<&'a str>, text: &'a str) -> Result<(), AllocError>
-    ensures { OnOk result (map (λ w. w.now) words.new.items ≡ words_of text.now) }
-{
-    words.clear();
-    words.extend(text.split(' '))
 }
 
 /// Parses a line that is split at its colons.

@@ -1,11 +1,12 @@
 -- After a schedule each call of a processor is the one that its script asks for.
-use Rattle.std.proofs.Common.{◌≡◌, ℕ, Bool, true, false, eqb, List, [], ◌∷◌, ◌++◌, Option, Some, None, slice_get, refl, append_assoc, append-nil}
-use Rattle.std.proofs.lemmas.Bool.{eqb-true}
+use Rattle.std.proofs.Common.{◌≡◌, ℕ, true, false, eqb, List, [], ◌∷◌, ◌++◌, Some, slice_get, append_assoc, append-nil, inl, inr}
+use Rattle.std.proofs.lemmas.Bool.{cases_Bool, eqb-true}
 use Rattle.std.proofs.lemmas.Option.{none-some, same_Some}
 use Rattle.hp_units.specs.Receipts.{receipt_of, receipts_of}
 use Rattle.hp_units.specs.declared.events.Event.{Event}
 use Rattle.hp_units.specs.declared.replies.Receipt.{Receipt}
 use Rattle.hp_units.specs.declared.replies.Record.{Record}
+use Rattle.hp_laws.proofs.Options.{cases_option}
 use Rattle.hp_schedules.specs.Schedules.{Setting, next_call, record_of_call}
 use Rattle.hp_schedules.specs.Scripts.{Known, known_of, next_in}
 use Rattle.hp_schedules.specs.declared.scripts.Step.{Step}
@@ -31,28 +32,24 @@ called_more : (g : Setting) (h : List Record) (c : ℕ) (e : Event) → next_cal
     → (cpu : ℕ) (lines : List Step) → slice_get g.scripts cpu ≡ Some lines → CalledAt g h cpu lines
     → CalledAt g (h ++ record_of_call g h c e ∷ []) cpu lines
 unfolding record_of_call next_call
-called_more g h c e asked cpu lines here before = by_owner (eqb c cpu) refl
-  where
-    by_owner : (b : Bool) → eqb c cpu ≡ b → CalledAt g (h ++ record_of_call g h c e ∷ []) cpu lines
-    by_owner true own =
-        rw (receipts_push cpu h (record_of_call g h c e) true own)
-        (called_push g.layout.cpus lines [] (receipts_of cpu h) (receipt_of (record_of_call g h c e))
-        (known_of (receipts_of cpu h)) before (rw here at (rw (eqb-true c cpu own) at asked)))
-    by_owner false other =
-        rw (receipts_push cpu h (record_of_call g h c e) false other, append-nil (receipts_of cpu h)) before
+called_more g h c e asked cpu lines here before =
+    elim (cases_Bool (eqb c cpu)) [
+      | inl own ↦
+          rw (receipts_push cpu h (record_of_call g h c e) true own)
+          (called_push g.layout.cpus lines [] (receipts_of cpu h) (receipt_of (record_of_call g h c e))
+          (known_of (receipts_of cpu h)) before (rw here at (rw (eqb-true c cpu own) at asked)))
+      | inr other ↦
+          rw (receipts_push cpu h (record_of_call g h c e) false other, append-nil (receipts_of cpu h)) before
+    ]
 
 pub called_on : (g : Setting) (cpu : ℕ) (lines : List Step) → slice_get g.scripts cpu ≡ Some lines
     → (rest : List ℕ) (h end : List Record) → CalledAt g h cpu lines → from_news g h rest ≡ Some end
     → CalledAt g end cpu lines
 called_on g cpu lines here [] h end so_far is = rw (← same_Some h end is) so_far
 called_on g cpu lines here (c ∷ rest) h end so_far is =
-    by_call (next_call g c h) refl
-    (λ e asked on. called_on g cpu lines here rest (h ++ record_of_call g h c e ∷ []) end
-    (called_more g h c e asked cpu lines here so_far) on)
-  where
-    by_call : (o : Option Event) → next_call g c h ≡ o
-        → ((e : Event) → next_call g c h ≡ Some e
-        → from_news g (h ++ record_of_call g h c e ∷ []) rest ≡ Some end → CalledAt g end cpu lines)
-        → CalledAt g end cpu lines
-    by_call None asked later = absurd (none-some end (rw (asked, stays_none g rest) at is))
-    by_call (Some e) asked later = later e asked (rw asked at is)
+    elim (cases_option (next_call g c h)) [
+      | inl none ↦ absurd (none-some end (rw (none, stays_none g rest) at is))
+      | inr e ↦
+          called_on g cpu lines here rest (h ++ record_of_call g h c e.0 ∷ []) end
+          (called_more g h c e.0 e.1 cpu lines here so_far) (rw e.1 at is)
+    ]

@@ -1,8 +1,12 @@
 -- Lines that are run in order with numbers in them, one more after another.
-use Rattle.std.proofs.Common.{◌≡◌, ℕ, ◌+◌, ◌<◌, ◌≤◌, List, [], ◌∷◌, ◌++◌, length, get_or, take, drop, set, refl, sym, ap, ◌∙◌, append_assoc, arith, Option, suc, add-one, min, ◌⊎◌, inl, inr}
-use Rattle.std.proofs.Math.Seq.{drop-cons, drop-nil}
+use Rattle.std.proofs.Common.{◌≡◌, ℕ, zero, suc, ◌+◌, ◌≤◌, List, [], ◌∷◌, ◌++◌, length, take, drop, set, slice_get, refl, sym, ap, ◌∙◌, append_assoc, arith, Option, Some, min, inl, inr}
+use Rattle.std.specs.Option.{option_flatten}
+use Rattle.std.proofs.Math.Seq.{drop-nil}
 use Rattle.std.proofs.lemmas.Bool.{cases_lt}
-use Rattle.std.proofs.lemmas.List.{drop-drop, drop-set-lt, drop_all, take_min, take_more, take_more_set, length-take-le}
+use Rattle.std.proofs.lemmas.List.{drop-drop, drop-set-lt, drop_all, take_min, take_more_set, length-take-le}
+use Rattle.std.proofs.lemmas.Option.{slice_get_within}
+use Rattle.hp_laws.proofs.Replays.{take_one}
+use Rattle.hp_schedules.proofs.Asked.{lines_here}
 use Rattle.hp_units.specs.LayoutParts.{LayoutParts}
 use Rattle.hp_machine.specs.Machine.{MachineValue, booted}
 use Rattle.hp_scenario.specs.declared.lines.Line.{Line}
@@ -12,31 +16,33 @@ use Rattle.hp_scripts.specs.Runs.{RunsLine}
 
 -- ---- numbers in lines
 
-drop_next : {A : Type 0} (xs : List A) (i : ℕ) → drop 1 (drop i xs) ≡ drop (i + 1) xs
-drop_next xs i = drop-drop 1 i xs
-
-drop_one_first : {A : Type 0} (xs : List A) (i : ℕ) → drop (suc i) xs ≡ drop i (drop 1 xs)
-drop_one_first [] i = sym (drop-nil i)
-drop_one_first (x ∷ xs) i = refl
+-- the source of the line at a place
+pub source_here : (sources : List (Option ℕ)) (i : ℕ)
+    → option_flatten (slice_get sources i) ≡ first_source (drop i sources)
+source_here [] zero = refl
+source_here [] (suc i) = refl
+source_here (source ∷ sources) zero = refl
+source_here (source ∷ sources) (suc i) = source_here sources i
 
 -- one more line gets its number
 pub put_one : (lines : List Line) (sources : List (Option ℕ)) (numbers : List ℕ) (i : ℕ) (line new : Line)
-    (total : List Line) → i < length lines → line ≡ get_or lines i line
+    (total : List Line) → slice_get lines i ≡ Some line
     → new ≡ line_after numbers (first_source (drop i sources)) line
     → take i lines ++ lines_after numbers (drop i sources) (drop i lines) ≡ total
     → take (i + 1) (set lines i new)
     ++ lines_after numbers (drop (i + 1) sources) (drop (i + 1) (set lines i new)) ≡ total
-put_one lines sources numbers i line new total lt at is so_far =
-    let here : drop i lines ≡ line ∷ drop (i + 1) lines =
-    drop-cons lines i line lt ∙ ap (λ (l : Line). l ∷ drop (suc i) lines) (sym at)
-    ∙ ap (λ (n : ℕ). line ∷ drop n lines) (sym (add-one i)) in
+put_one lines sources numbers i line new total here is so_far =
     rw (
-      take_more_set lines i new lt,
+      take_more_set lines i new (slice_get_within lines i line here),
       drop-set-lt (i + 1) lines i new (omega arith),
       append_assoc (take i lines) (new ∷ []),
-    ) (rw (here, ← is, drop_next sources i) at so_far)
+    ) (rw (lines_here lines i line here, ← is, drop-drop 1 i sources) at so_far)
 
 -- ---- runs
+
+drop_one_first : {A : Type 0} (xs : List A) (i : ℕ) → drop (suc i) xs ≡ drop i (drop 1 xs)
+drop_one_first [] i = sym (drop-nil i)
+drop_one_first (x ∷ xs) i = refl
 
 -- one more line
 runs_one_more : (xs ran : List Line) (line : Line) (sources : List (Option ℕ)) (m mid new : MachineValue)
@@ -48,49 +54,43 @@ runs_one_more : (xs ran : List Line) (line : Line) (sources : List (Option ℕ))
 runs_one_more [] ran line sources m mid new before so_far number run one =
     (new, number, [], rw (run.0, run.2), rw (run.2, run.1) at one, (refl, refl, rw run.2))
 runs_one_more (x ∷ xs) ran line sources m mid new before so_far number run one =
-    let source = first_source (drop (length xs) (drop 1 sources)) in
     let places : drop (length (x ∷ xs)) sources ≡ drop (length xs) (drop 1 sources) =
     drop_one_first sources (length xs) in
     let more = runs_one_more xs run.2 line (drop 1 sources) run.0 mid new (before ++ run.1 ∷ []) so_far number
     run.5 (rw places at one) in
+    let source = first_source (drop (length xs) (drop 1 sources)) in
     (run.0, run.1, run.2 ++ line_after so_far source line ∷ [], rw (run.3, places), run.4, more)
 
--- the lines at a place are the same where what is left of both lists is
-same_at : (xs ys : List Line) (i : ℕ) (d : Line) → i < length xs → i < length ys → drop i ys ≡ drop i xs
-    → get_or ys i d ≡ get_or xs i d
-same_at xs ys i d lt lt' same =
-    let both : get_or ys i d ∷ drop (suc i) ys ≡ get_or xs i d ∷ drop (suc i) xs =
-    sym (drop-cons ys i d lt') ∙ same ∙ drop-cons xs i d lt in cc
+get_drop : {A : Type 0} (xs : List A) (i : ℕ) → slice_get (drop i xs) 0 ≡ slice_get xs i
+get_drop [] zero = refl
+get_drop [] (suc i) = refl
+get_drop (x ∷ xs) zero = refl
+get_drop (x ∷ xs) (suc i) = get_drop xs i
 
 -- one more of the lines is run, with its number in it
 pub runs_more : (xs lines : List Line) (i : ℕ) (line new : Line) (sources : List (Option ℕ))
     (m mid next : MachineValue) (before so_far : List ℕ) (number : ℕ)
-    → i < length xs → i < length lines → drop i lines ≡ drop i xs → line ≡ get_or lines i line
+    → slice_get lines i ≡ Some line → i ≤ length xs → drop i lines ≡ drop i xs
     → new ≡ line_after so_far (first_source (drop i sources)) line
     → RunsFront m before sources (take i xs) (take i lines) mid so_far → RunsLine mid new next number
     → RunsFront m before sources (take (i + 1) xs) (take (i + 1) (set lines i new)) next
     (so_far ++ number ∷ [])
-runs_more xs lines i line new sources m mid next before so_far number lt lt' same at is run one =
-    let all : length (take i xs) ≡ i = length-take-le i xs (omega arith) in
-    let source = first_source (drop i sources) in
-    let source' = first_source (drop (length (take i xs)) sources) in
-    let equal : line_after so_far source' line ≡ new =
-    ap (λ (n : ℕ). line_after so_far (first_source (drop n sources)) line) all ∙ sym is in
-    let one' : RunsLine mid (line_after so_far source' line) next number = rw equal one in
+runs_more xs lines i line new sources m mid next before so_far number here le same is run one =
+    let all : length (take i xs) ≡ i = length-take-le i xs le in
+    let equal : line_after so_far (first_source (drop (length (take i xs)) sources)) line ≡ new =
+    rw all (sym is) in
+    let there : slice_get xs i ≡ Some line = rw (← get_drop xs i, ← same, get_drop lines i) here in
     let more =
-    runs_one_more (take i xs) (take i lines) line sources m mid next before so_far number run one' in
-    let front : take (i + 1) (set lines i new) ≡ take i lines ++ line_after so_far source' line ∷ [] =
-    take_more_set lines i new lt' ∙ ap (λ (l : Line). take i lines ++ l ∷ []) (sym equal) in
-    let asked : take (i + 1) xs ≡ take i xs ++ line ∷ [] =
-    take_more xs i line lt
-    ∙ ap (λ (l : Line). take i xs ++ l ∷ []) (sym (at ∙ same_at xs lines i line lt lt' same)) in
-    rw (front, asked) more
+    runs_one_more (take i xs) (take i lines) line sources m mid next before so_far number run
+    (rw equal one) in
+    rw (take_more_set lines i new (slice_get_within lines i line here), take_one xs i line there)
+    (rw equal at more)
 
 -- the lines after it stay
 pub later_stay : (xs lines : List Line) (i : ℕ) (new : Line) → drop i lines ≡ drop i xs
     → drop (i + 1) (set lines i new) ≡ drop (i + 1) xs
 later_stay xs lines i new same =
-    rw (drop-set-lt (i + 1) lines i new (omega arith), ← drop_next lines i, same, drop_next xs i)
+    rw (drop-set-lt (i + 1) lines i new (omega arith), ← drop-drop 1 i lines, same, drop-drop 1 i xs)
 
 -- ---- all lines
 
@@ -99,16 +99,11 @@ rest_same : (count front : ℕ) (sources : List (Option ℕ)) (numbers : List �
     → front ≡ min count (length lines)
     → lines_after numbers (drop front sources) (drop front lines)
     ≡ lines_after numbers (drop count sources) (drop count lines)
-rest_same count front sources numbers lines is = by_order (cases_lt count (length lines))
-  where
-    by_order : (count < length lines) ⊎ (length lines ≤ count)
-        → lines_after numbers (drop front sources) (drop front lines)
-        ≡ lines_after numbers (drop count sources) (drop count lines)
-    by_order (inl le) =
-        ap (λ (n : ℕ). lines_after numbers (drop n sources) (drop n lines)) (omega (arith, is))
-    by_order (inr le) =
-        ap (lines_after numbers (drop front sources)) (drop_all front lines (omega (arith, is)))
-        ∙ sym (ap (lines_after numbers (drop count sources)) (drop_all count lines le))
+rest_same count front sources numbers lines is =
+    elim (cases_lt count (length lines)) [
+      | inl less ↦ (let same : front ≡ count = omega (arith, is) in rw same)
+      | inr past ↦ rw (drop_all front lines (omega (arith, is)), drop_all count lines past)
+    ]
 
 -- the front was run, and the rest has its numbers
 pub numbers_put : (l : LayoutParts) (count front : ℕ) (old lines put : List Line)

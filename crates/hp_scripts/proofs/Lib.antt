@@ -8,6 +8,5 @@ pub mod LineResults
 pub mod LineSteps
 pub mod Lists
 pub mod Scripted
-pub mod Started
 pub mod StepCounts
 pub mod StepResults

@@ -1,16 +1,13 @@
 -- Lists of lines, one more after another.
-use Rattle.std.proofs.Common.{◌≡◌, ℕ, ◌+◌, ◌<◌, List, [], ◌∷◌, ◌++◌, length, get_or, take, Option, Some, None, refl, slice_get, ◌∙◌, arith}
+use Rattle.std.proofs.Common.{◌≡◌, ℕ, ◌+◌, ◌<◌, List, [], ◌∷◌, ◌++◌, length, get_or, take, Some, None, refl, slice_get, ◌∙◌, arith}
 use Rattle.std.proofs.lemmas.Bool.{cases_lt}
 use Rattle.std.proofs.lemmas.List.{take_more}
-use Rattle.std.proofs.lemmas.List.FromFn.{map-range_with_len_more}
 use Rattle.hp_machine.specs.Machine.{MachineValue}
-use Rattle.hp_schedules.specs.declared.scripts.Step as step
 use Rattle.hp_scenario.specs.declared.lines.Line.{Line}
 use Rattle.hp_scenario.specs.Unfit.{unfit}
 use Rattle.hp_scripts.specs.Checks.{AreFit, IsLineFault, IsUnfit}
 use Rattle.hp_scripts.specs.declared.start_fault.StartFault.{StartFault}
 use Rattle.hp_scripts.specs.declared.start_fault.StartFault.TheVariants.{NotForScript, OutOfMemory}
-use Rattle.hp_scripts.specs.Scripts.{script_of, scripts_of}
 use Rattle.hp_scripts.specs.Runs.{RunsLine}
 use Rattle.hp_scripts.specs.Setup.{RunsLines, begins_sealed}
 use Rattle.hp_scripts.specs.declared.begins.Begin.{Begin}
@@ -36,14 +33,6 @@ pub lines_more : (xs : List Line) (i : ℕ) (line : Line) (m mid next : MachineV
 lines_more xs i line m mid next before so_far after number lt ran is_at sealed one =
     rw (take_more xs i line lt, ← is_at)
     (one_more (take i xs) line m mid next before so_far after number ran one sealed)
-
--- one more script
-pub scripts_more : (all : List (List step.Step)) (script : List step.Step) (begins : List Begin)
-    (lines : List Line) (sources : List (Option ℕ)) (cpu : ℕ)
-    → all ≡ scripts_of cpu begins lines sources → script ≡ script_of begins lines sources cpu
-    → all ++ script ∷ [] ≡ scripts_of (cpu + 1) begins lines sources
-scripts_more all script begins lines sources cpu so_far is =
-    rw (so_far, is, map-range_with_len_more (script_of begins lines sources) 0 cpu cpu (omega arith))
 
 -- one more line can stand in a script
 pub fit_more : (cpus : ℕ) (lines : List Line) (i : ℕ) (line : Line)

@@ -1,5 +1,5 @@
 -- A text that is a line without names has none: it stays as it is.
-use Rattle.std.proofs.Common.{◌≡◌, ℕ, ◌&&◌, Bool, true, false, cond, List, [], ◌∷◌, codes, Option, Some, None, refl, sym, ap, subst, ◌∙◌, option_map, option_and_then, arith}
+use Rattle.std.proofs.Common.{◌≡◌, ℕ, ◌&&◌, Bool, true, false, cond, List, [], ◌∷◌, codes, Option, Some, None, refl, ap, ◌∙◌, option_map, option_and_then, arith}
 use Rattle.std.specs.Prelude.{unwrap_or}
 use Rattle.std.specs.Str.{bytes_eq}
 use Rattle.std.proofs.lemmas.Bool.{eqb-true}
@@ -10,9 +10,9 @@ use Rattle.hp_units.specs.declared.plans.Item.{Item}
 use Rattle.hp_scenario.specs.Lines.{Request, Said, event_of, event_of_number, item_of, items_of, line_says, request_of, request_of_four, request_of_three, request_of_two, begin_of, wish_of, words_say}
 use Rattle.hp_scenario.specs.Names.{Numbered, line_in, numbered}
 use Rattle.hp_scenario.specs.Words.{is_name, words_of}
-use Rattle.hp_scripts.specs.Bindings.{Bound, result_at}
+use Rattle.hp_scripts.specs.Bindings.{Bound}
 use Rattle.hp_scripts.specs.NamedWords.{after_dollar, last_two, name_at_end, name_of_two}
-use Rattle.hp_scripts.specs.Plain.{line_by_use, naming_line, numbered_line, of_kind, plain_in, plain_of, unchanged, working_line}
+use Rattle.hp_scripts.specs.Plain.{line_by_use, plain_in, plain_of, unchanged, working_line}
 use Rattle.hp_scripts.specs.Results.{use_of_verb}
 use Rattle.hp_scripts.specs.declared.results.NameUse.{NameUse}
 use Rattle.hp_scripts.specs.declared.results.NameUse.TheVariants.{Gives, Takes}
@@ -57,35 +57,23 @@ items_marked (a ∷ b ∷ c ∷ d ∷ ws) mark name begins h =
 
 -- ---- names at the end
 
--- the last two words, if they give a name
-pub record Marked (ws : List (List ℕ)) : Type 0 where
-  pub mark : List ℕ
-  pub name : List ℕ
-  pub ends : last_two ws ≡ Some (mark, name)
-  pub is : mark ≡ codes "as"
-
 same_text : (a b : List ℕ) → bytes_eq a b ≡ true → a ≡ b
 same_text a b h = (bytes_eq-Decides a b).0 h
 
-marked_if : (ws : List (List ℕ)) (o : Option (List ℕ × List ℕ)) (name : List ℕ) → last_two ws ≡ o
-    → option_and_then name_of_two o ≡ Some name → Marked ws
-marked_if ws None name e h = absurd cc
-marked_if ws (Some two) name e h = record {
-  mark = two.0;
-  name = two.1;
-  ends = e;
-  is = same_text two.0 (codes "as") (first_test (bytes_eq two.0 (codes "as")) (is_name two.1) two.1 h);
-}
+-- words that end in a name are no items
+no_items_if : (ws : List (List ℕ)) (o : Option (List ℕ × List ℕ)) (name : List ℕ) → last_two ws ≡ o
+    → option_and_then name_of_two o ≡ Some name → items_of ws ≡ None
+no_items_if ws None name e h = absurd cc
+no_items_if ws (Some two) name e h =
+    items_marked ws two.0 two.1
+    (same_text two.0 (codes "as") (first_test (bytes_eq two.0 (codes "as")) (is_name two.1) two.1 h)) e
   where
     first_test : (a b : Bool) (n : List ℕ) → cond (a && b) (Some n) None ≡ Some name → a ≡ true
     first_test true b n h = refl
     first_test false b n h = absurd cc
 
-marked : (ws : List (List ℕ)) (name : List ℕ) → name_at_end ws ≡ Some name → Marked ws
-marked ws name h = marked_if ws (last_two ws) name refl h
-
 no_items : (ws : List (List ℕ)) (name : List ℕ) → name_at_end ws ≡ Some name → items_of ws ≡ None
-no_items ws name h = let m = marked ws name h in items_marked ws m.mark m.name m.is m.ends
+no_items ws name h = no_items_if ws (last_two ws) name refl h
 
 -- ---- requests
 
@@ -107,7 +95,7 @@ by_test : (P : List ℕ → Type 0) (verb word : List ℕ) (b : Bool) (rest : Op
     → bytes_eq verb word ≡ b → cond b (Some names) rest ≡ Some found → (names ≡ found → P word)
     → (rest ≡ Some found → P verb) → P verb
 by_test P verb word true rest names found is h here other =
-    subst P (sym (same_text verb word is)) (here (same_Some names found h))
+    rw (same_text verb word is) (here (same_Some names found h))
 by_test P verb word false rest names found is h here other = other h
 
 -- what holds of each verb that uses names like this
@@ -118,18 +106,13 @@ by_use : (P : List ℕ → Type 0) (verb : List ℕ) (names : NameUse) → use_o
     → (Takes Frame ≡ names → P (codes "kfree")) → P verb
 unfolding use_of_verb
 by_use P verb names h begin kalloc drainfor migrate commit cancel kfree =
-    by_test P verb (codes "begin") (bytes_eq verb (codes "begin")) _ (Gives Operation) names refl h begin
-    (λ h. by_test P verb (codes "kalloc") (bytes_eq verb (codes "kalloc")) _ (Gives Frame) names refl h kalloc
-    (λ h. by_test P verb (codes "drainfor") (bytes_eq verb (codes "drainfor")) _ (Takes Operation) names refl
-    h drainfor
-    (λ h. by_test P verb (codes "migrate") (bytes_eq verb (codes "migrate")) _ (Takes Operation) names refl h
-    migrate
-    (λ h. by_test P verb (codes "commit") (bytes_eq verb (codes "commit")) _ (Takes Operation) names refl h
-    commit
-    (λ h. by_test P verb (codes "cancel") (bytes_eq verb (codes "cancel")) _ (Takes Operation) names refl h
-    cancel
-    (λ h. by_test P verb (codes "kfree") (bytes_eq verb (codes "kfree")) None (Takes Frame) names refl h kfree
-    (λ h. absurd cc)))))))
+    by_test P verb (codes "begin") _ _ _ names refl h begin
+    (λ h. by_test P verb (codes "kalloc") _ _ _ names refl h kalloc
+    (λ h. by_test P verb (codes "drainfor") _ _ _ names refl h drainfor
+    (λ h. by_test P verb (codes "migrate") _ _ _ names refl h migrate
+    (λ h. by_test P verb (codes "commit") _ _ _ names refl h commit
+    (λ h. by_test P verb (codes "cancel") _ _ _ names refl h cancel
+    (λ h. by_test P verb (codes "kfree") _ None _ names refl h kfree (λ h. absurd cc)))))))
 
 no_named_request : (verb : List ℕ) (args : List (List ℕ)) (name : List ℕ) (kind : ResultKind)
     → use_of_verb verb ≡ Some (Gives kind) → name_at_end args ≡ Some name → request_of (verb ∷ args) ≡ None
@@ -138,74 +121,42 @@ no_named_request verb args name kind h at =
     (λ e. named_kalloc args name at) (λ e. absurd cc) (λ e. absurd cc) (λ e. absurd cc) (λ e. absurd cc)
     (λ e. absurd cc)
 
--- a verb that works on a result is one of these
-abbrev IsWorking : List ℕ → Type 0
-IsWorking verb =
-    (name : List ℕ) (rest : List (List ℕ)) → request_of (verb ∷ (36 ∷ name) ∷ rest) ≡ None
-
-works_drainfor : IsWorking (codes "drainfor")
+-- a verb that works on a result does not work on a word with a `$` in front
+works_on : (verb : List ℕ) (kind : ResultKind) (name : List ℕ) (rest : List (List ℕ))
+    → use_of_verb verb ≡ Some (Takes kind) → request_of (verb ∷ (36 ∷ name) ∷ rest) ≡ None
 unfolding request_of event_of event_of_number request_of_two request_of_three request_of_four
-works_drainfor name rest = grind (arith, dollar_no_number 64 name)
-
-works_migrate : IsWorking (codes "migrate")
-unfolding request_of event_of event_of_number request_of_two request_of_three request_of_four
-works_migrate name rest = grind (arith, dollar_no_number 64 name)
-
-works_commit : IsWorking (codes "commit")
-unfolding request_of event_of event_of_number request_of_two request_of_three request_of_four
-works_commit name rest = grind (arith, dollar_no_number 64 name)
-
-works_cancel : IsWorking (codes "cancel")
-unfolding request_of event_of event_of_number request_of_two request_of_three request_of_four
-works_cancel name rest = grind (arith, dollar_no_number 64 name)
-
-works_kfree : IsWorking (codes "kfree")
-unfolding request_of event_of event_of_number request_of_two request_of_three request_of_four
-works_kfree name rest = grind (arith, dollar_no_number 32 name)
-
-works_on : (verb : List ℕ) (kind : ResultKind) → use_of_verb verb ≡ Some (Takes kind) → IsWorking verb
-works_on verb kind h =
-    by_use IsWorking verb (Takes kind) h (λ e. absurd cc) (λ e. absurd cc) (λ e. works_drainfor)
-    (λ e. works_migrate) (λ e. works_commit) (λ e. works_cancel) (λ e. works_kfree)
+works_on verb kind name rest h =
+    by_use (λ v. request_of (v ∷ (36 ∷ name) ∷ rest) ≡ None) verb (Takes kind) h (λ e. absurd cc)
+    (λ e. absurd cc) (λ e. grind (arith, dollar_no_number 64 name))
+    (λ e. grind (arith, dollar_no_number 64 name)) (λ e. grind (arith, dollar_no_number 64 name))
+    (λ e. grind (arith, dollar_no_number 64 name)) (λ e. grind (arith, dollar_no_number 32 name))
 
 no_working_request : (verb word : List ℕ) (rest : List (List ℕ)) (name : List ℕ) (kind : ResultKind)
     → use_of_verb verb ≡ Some (Takes kind) → after_dollar word ≡ Some name
     → request_of (verb ∷ word ∷ rest) ≡ None
 no_working_request verb word rest name kind h at =
-    rw (dollar_word word name at) (works_on verb kind h name rest)
+    rw (dollar_word word name at) (works_on verb kind name rest h)
 
 -- ---- lines
 
--- a line without a name for its result
-unnamed : (text : List ℕ) (words : List (List ℕ)) (cpu : List ℕ) (kind : ResultKind) (o : Option (List ℕ))
-    → ((name : List ℕ) → o ≡ Some name → ⊥) → naming_line text words cpu kind o ≡ unchanged text
-unnamed text words cpu kind None none = refl
-unnamed text words cpu kind (Some name) none = absurd (none name refl)
+no_name : (o : Option (List ℕ)) → ((name : List ℕ) → o ≡ Some name → ⊥) → o ≡ None
+no_name None none = refl
+no_name (Some name) none = absurd (none name refl)
 
 -- a line that works on no name
-unnumbered : (bound : Bound) (text cpu verb : List ℕ) (rest : List (List ℕ)) (kind : ResultKind)
-    (o : Option (List ℕ)) → ((name : List ℕ) → o ≡ Some name → ⊥)
-    → numbered_line text cpu verb rest
-    (option_and_then (of_kind kind) (option_and_then (result_at bound cpu) o))
-    ≡ unchanged text
-unnumbered bound text cpu verb rest kind None none = refl
-unnumbered bound text cpu verb rest kind (Some name) none = absurd (none name refl)
-
 working_unchanged : (bound : Bound) (text cpu verb : List ℕ) (kind : ResultKind) (args : List (List ℕ))
     → use_of_verb verb ≡ Some (Takes kind) → (request_of (verb ∷ args) ≡ None → ⊥)
     → working_line bound text cpu verb kind args ≡ unchanged text
 working_unchanged bound text cpu verb kind [] is asks = refl
 working_unchanged bound text cpu verb kind (word ∷ rest) is asks =
-    unnumbered bound text cpu verb rest kind (after_dollar word)
-    (λ name at. asks (no_working_request verb word rest name kind is at))
+    rw (no_name (after_dollar word) (λ name at. asks (no_working_request verb word rest name kind is at)))
 
 by_names : (bound : Bound) (text cpu verb : List ℕ) (args : List (List ℕ)) (names : Option NameUse)
     → use_of_verb verb ≡ names → (request_of (verb ∷ args) ≡ None → ⊥)
     → line_by_use bound text cpu verb args names ≡ unchanged text
 by_names bound text cpu verb args None is asks = refl
 by_names bound text cpu verb args (Some (Gives kind)) is asks =
-    unnamed text (cpu ∷ verb ∷ args) cpu kind (name_at_end args)
-    (λ name at. asks (no_named_request verb args name kind is at))
+    rw (no_name (name_at_end args) (λ name at. asks (no_named_request verb args name kind is at)))
 by_names bound text cpu verb args (Some (Takes kind)) is asks =
     working_unchanged bound text cpu verb kind args is asks
 
@@ -213,9 +164,7 @@ by_names bound text cpu verb args (Some (Takes kind)) is asks =
 asks_if : (cpu : Option ℕ) (r : Option Request) (said : Said)
     → option_and_then (λ c. option_and_then (λ q. Some (record { cpu = c; request = q })) r) cpu ≡ Some said
     → r ≡ None → ⊥
-asks_if None r said h none = absurd cc
-asks_if (Some c) None said h none = absurd cc
-asks_if (Some c) (Some q) said h none = absurd cc
+asks_if cpu r said h none = grind arith
 
 words_unchanged : (bound : Bound) (text : List ℕ) (words : List (List ℕ)) (said : Said)
     → words_say words ≡ Some said → plain_of bound text words ≡ unchanged text

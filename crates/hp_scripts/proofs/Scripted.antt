@@ -32,16 +32,12 @@ step_one : (op : ℕ) (begun : Bool) (named : Option OwnWork) (e : Event)
     → is_one_call (event_step op begun named e) ≡ true
 step_one op begun named e = grind arith
 
-explored_alike : (op other : ℕ) (begun : Bool) (named also : Option OwnWork) (m : asks.Meaning)
-    → shape (steps_of (explored op begun named m)) ≡ shape (steps_of (explored other begun also m))
-explored_alike op other begun named also (asks.event e) =
-    rw (step_one op begun named e, step_one other begun also e)
-explored_alike op other begun named also m = refl
-
 line_alike : (op other : ℕ) (begun : Bool) (named also : Option OwnWork) (m : asks.Meaning) (own : Bool)
     → shape (steps_of (if own then explored op begun named m else None))
     ≡ shape (steps_of (if own then explored other begun also m else None))
-line_alike op other begun named also m true = explored_alike op other begun named also m
+line_alike op other begun named also (asks.event e) true =
+    rw (step_one op begun named e, step_one other begun also e)
+line_alike op other begun named also m true = refl
 line_alike op other begun named also m false = refl
 
 -- ---- all lines
@@ -52,9 +48,9 @@ steps_alike : (cpu op other : ℕ) (begun : Bool) (lines : List Line) (sources o
     ≡ shape (steps_in cpu other begun lines others place left)
 steps_alike cpu op other begun lines sources others place [] = refl
 steps_alike cpu op other begun lines sources others place (line ∷ left) =
-    let named : Option OwnWork = named_at cpu lines sources place (asks.asked_by line.work) in
-    let also : Option OwnWork = named_at cpu lines others place (asks.asked_by line.work) in
-    let later : Bool = begun || line_begins cpu line in
+    let named = named_at cpu lines sources place (asks.asked_by line.work) in
+    let also = named_at cpu lines others place (asks.asked_by line.work) in
+    let later = begun || line_begins cpu line in
     rw (
       map-append is_one_call (steps_of (step_for cpu op begun named line))
           (steps_in cpu op later lines sources (place + 1) left),
@@ -107,33 +103,23 @@ pub known_after_any : (cpus : ℕ) (begins others : List Begin) (lines : List Li
     → IsKnown (scripts_of cpus begins lines sources) limit known
     → IsKnown (scripts_of cpus others lines also) limit known
 known_after_any cpus begins others lines sources also limit known h =
-    let first : List (List Step) = scripts_of cpus begins lines sources in
-    let second : List (List Step) = scripts_of cpus others lines also in
+    let first = scripts_of cpus begins lines sources in
+    let second = scripts_of cpus others lines also in
     let same = scripts_alike begins others lines sources also (range_with_len 0 cpus) in
     known_alike first second limit known (rw (lengths_by first, same, ← lengths_by second))
     (rw (calls_by first, same, ← calls_by second)) h
 
 -- ---- a line that cannot stand in a script
 
-pub not_fit : (cpus before : ℕ) (lines : List Line) (fault : StartFault) → IsUnfit cpus before lines fault
-    → AreFit cpus lines (length lines) → ⊥
-not_fit cpus before lines (NotForScript place why) h fit =
-    none-some why (sym (fit h.at h.line (slice_get_within lines h.at h.line h.here) h.here) ∙ h.cause)
-not_fit cpus before lines OutOfMemory h fit = h
-
--- the lines after the first so many
-pub scripted : (cpus setup : ℕ) (lines after : List Line) → after ≡ drop setup lines
-    → AreFit cpus after (length after) → AreScripts cpus setup lines
-scripted cpus setup lines after is fit = rw is at fit
-
 pub unscripted : (cpus setup before : ℕ) (lines after : List Line) (fault : StartFault)
     → after ≡ drop setup lines → IsUnfit cpus before after fault → AreScripts cpus setup lines → ⊥
-unscripted cpus setup before lines after fault is unfit scripts =
-    not_fit cpus before after fault unfit (rw is scripts)
+unscripted cpus setup before lines after (NotForScript place why) is h fit =
+    let fit' : AreFit cpus after (length after) = rw is fit in
+    none-some why (sym (fit' h.at h.line (slice_get_within after h.at h.line h.here) h.here) ∙ h.cause)
+unscripted cpus setup before lines after OutOfMemory is h fit = h
 
--- what is known of their scripts
+-- what is known of the scripts of the lines after the first so many
 pub known_there : (cpus setup limit : ℕ) (lines after : List Line) (known : HowMany)
     → after ≡ drop setup lines → AreFit cpus after (length after) → AreKnownAs cpus after limit known
     → IsKnownAfter cpus setup lines limit (Some known)
-known_there cpus setup limit lines after known is fit h =
-    (scripted cpus setup lines after is fit, rw is at h)
+known_there cpus setup limit lines after known is fit h = (rw is at fit, rw is at h)

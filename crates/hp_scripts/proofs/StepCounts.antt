@@ -1,7 +1,6 @@
 -- How many calls of a kind the steps of a script make: as many as there are steps of that kind.
-use Rattle.std.proofs.Common.{◌≡◌, ℕ, ◌+◌, Bool, true, false, cond, List, [], ◌∷◌, ◌++◌, Some, None, refl, ap, sym, subst, ◌∙◌, ◌⊎◌, inl, inr, arith, append_assoc, append-nil}
+use Rattle.std.proofs.Common.{◌≡◌, ℕ, ◌+◌, Bool, true, false, cond, List, [], ◌∷◌, ◌++◌, Some, None, refl, ap, sym, ◌∙◌, inl, inr, arith, append_assoc, append-nil}
 use Rattle.std.specs.List.{count_by}
-use Rattle.std.specs.Option.{option_and_then}
 use Rattle.std.proofs.lemmas.List.Sums.{sum_by-append, sum_by-cons}
 use Rattle.std.proofs.lemmas.Option.{same_Some}
 use Rattle.hp_units.specs.Driver.{next_after, next_event}
@@ -16,7 +15,7 @@ use Rattle.hp_schedules.specs.declared.scripts.OwnWork.{OwnWork}
 use Rattle.hp_schedules.specs.declared.scripts.Step.{Step}
 use Rattle.hp_schedules.specs.declared.scripts.Step.TheVariants.{Ask, Own, Carry}
 use Rattle.hp_schedules.proofs.AfterLines.{after_more, after_parts, any_known, first_then}
-use Rattle.hp_schedules.proofs.Begun.{IsPush, all_work, is_work, next_works, push_cases}
+use Rattle.hp_schedules.proofs.Begun.{all_work, is_work, next_works, push_cases}
 use Rattle.hp_schedules.proofs.Lines.{goes_on, goes_on_all, over_now}
 
 -- ---- what is counted
@@ -72,14 +71,14 @@ work_works known work = grind arith
 
 later_works : (cpus turns : ℕ) (plan : List Item) (x : Receipt) (xs : List Receipt) (e : Event)
     → next_event cpus turns plan (x ∷ xs) ≡ Some e → is_work e ≡ true
-later_works cpus turns plan x xs e is = by_push (push_cases (x ∷ xs))
-  where
-    by_push : ((x ∷ xs) ≡ []) ⊎ IsPush (x ∷ xs) → is_work e ≡ true
-    by_push (inl none) = absurd cc
-    by_push (inr p) =
-        let next : next_after cpus turns (p.front ++ p.last ∷ []) p.last.event p.last.reply ≡ Some e =
-        rw (← next_push cpus turns plan p.front p.last, ← p.list_is) is in
-        sym (ap all_work next) ∙ next_works cpus turns (p.front ++ p.last ∷ []) p.last.event p.last.reply
+later_works cpus turns plan x xs e is =
+    elim (push_cases (x ∷ xs)) [
+      | inl none ↦ absurd cc
+      | inr p ↦
+          (let next : next_after cpus turns (p.front ++ p.last ∷ []) p.last.event p.last.reply ≡ Some e =
+          rw (← next_push cpus turns plan p.front p.last, ← p.list_is) is in
+          sym (ap all_work next) ∙ next_works cpus turns (p.front ++ p.last ∷ []) p.last.event p.last.reply)
+    ]
 
 -- ---- the calls of one step
 
@@ -118,45 +117,43 @@ on_line cpus line lines earlier (r ∷ rs) joins called over =
           called.1 (sym (goes_on cpus nothing_known line earlier r rs on.0 on.1) ∙ over),
     )
 
--- none of the later ones is counted
-later_none : (q : Event → Bool) (s : Step → Bool) (c : Counts q s) (cpus : ℕ) (line : Step)
-    (x : Receipt) (earlier own : List Receipt) → CalledOn cpus line (x ∷ earlier) own
-    → count_by (λ (r : Receipt). q r.event) own ≡ 0
-later_none q s c cpus line x earlier [] called = refl
-later_none q s c cpus line x earlier (r ∷ rs) called =
-    rw (none line called.0.1) (later_none q s c cpus line x (earlier ++ r ∷ []) rs called.1)
-  where
-    none : (line : Step) → line_next cpus called.0.0 line (x ∷ earlier) ≡ Some r.event → q r.event ≡ false
-    none (Ask event) is = absurd cc
-    none (Own work) is = absurd cc
-    none (Carry plan turns) is = c.works r.event (later_works cpus turns plan x earlier r.event is)
-
--- the first one is, if the step is
-first_counted : (q : Event → Bool) (s : Step → Bool) (c : Counts q s) (cpus : ℕ) (known : Known)
-    (line : Step) (event : Event) → line_next cpus known line [] ≡ Some event → q event ≡ s line
-first_counted q s c cpus known (Ask e) event is = rw (← same_Some e event is) (sym (c.asks e))
-first_counted q s c cpus known (Own work) event is =
-    rw (← same_Some (work_of known work) event is, c.owns work)
-    (c.works (work_of known work) (work_works known work))
-first_counted q s c cpus known (Carry plan turns) event is =
-    rw (← same_Some (Begin plan) event is) (sym (c.carries plan turns))
-
 pub counted_first : {X : Type 0} (p : X → Bool) (x : X) (xs : List X)
     → count_by p (x ∷ xs) ≡ cond (p x) 1 0 + count_by p xs
 counted_first p x xs = sum_by-cons (λ y. cond (p y) 1 0) x xs
 
-own_count : (q : Event → Bool) (s : Step → Bool) (c : Counts q s) (cpus : ℕ) (line : Step)
-    (own : List Receipt) → CalledOn cpus line [] own → after_line cpus nothing_known line [] own ≡ Some []
-    → count_by (λ (r : Receipt). q r.event) own ≡ cond (s line) 1 0
-own_count q s c cpus (Ask event) [] called over = absurd cc
-own_count q s c cpus (Own work) [] called over = absurd cc
-own_count q s c cpus (Carry plan turns) [] called over = absurd cc
-own_count q s c cpus line (r ∷ rs) called over =
-    rw (
-      counted_first (λ (x : Receipt). q x.event) r rs,
-      later_none q s c cpus line r [] rs called.1,
-      first_counted q s c cpus called.0.0 line r.event called.0.1,
-    ) (omega arith)
+module _ {q : Event → Bool} {s : Step → Bool} (c : Counts q s) (cpus : ℕ) where
+  -- none of the later ones is counted
+  later_none : (line : Step) (x : Receipt) (earlier own : List Receipt) → CalledOn cpus line (x ∷ earlier) own
+      → count_by (λ (r : Receipt). q r.event) own ≡ 0
+  later_none line x earlier [] called = refl
+  later_none line x earlier (r ∷ rs) called =
+      rw (none line called.0.1) (later_none line x (earlier ++ r ∷ []) rs called.1)
+    where
+      none : (line : Step) → line_next cpus called.0.0 line (x ∷ earlier) ≡ Some r.event → q r.event ≡ false
+      none (Carry plan turns) is = c.works r.event (later_works cpus turns plan x earlier r.event is)
+      none line is = absurd cc
+
+  -- the first one is, if the step is
+  first_counted : (known : Known) (line : Step) (event : Event) → line_next cpus known line [] ≡ Some event
+      → q event ≡ s line
+  first_counted known (Ask e) event is = rw (← same_Some e event is) (sym (c.asks e))
+  first_counted known (Own work) event is =
+      rw (← same_Some (work_of known work) event is, c.owns work)
+      (c.works (work_of known work) (work_works known work))
+  first_counted known (Carry plan turns) event is =
+      rw (← same_Some (Begin plan) event is) (sym (c.carries plan turns))
+
+  own_count : (line : Step) (own : List Receipt) → CalledOn cpus line [] own
+      → after_line cpus nothing_known line [] own ≡ Some []
+      → count_by (λ (r : Receipt). q r.event) own ≡ cond (s line) 1 0
+  own_count (Ask event) [] called over = absurd cc
+  own_count line [] called over = absurd cc
+  own_count line (r ∷ rs) called over =
+      rw (
+        counted_first (λ (x : Receipt). q x.event) r rs,
+        later_none line r [] rs called.1,
+        first_counted called.0.0 line r.event called.0.1,
+      ) (omega arith)
 
 -- ---- the calls of several steps
 
@@ -194,28 +191,23 @@ called_past cpus lines others past earlier (r ∷ rs) over called = (
 )
 
 -- so many of them are counted as steps are
-pub lines_count : (q : Event → Bool) (s : Step → Bool) (c : Counts q s) (cpus : ℕ) (lines others : List Step)
+pub lines_count : {q : Event → Bool} {s : Step → Bool} (c : Counts q s) (cpus : ℕ) (lines others : List Step)
     (receipts : List Receipt) → AreCalled cpus (lines ++ others) receipts
     → after_lines cpus nothing_known lines receipts ≡ Some []
     → count_by (λ (r : Receipt). q r.event) receipts ≡ count_by s lines
-lines_count q s c cpus [] others receipts called over =
-    rw (same_Some receipts [] over)
-lines_count q s c cpus (line ∷ lines) others receipts called over =
+lines_count c cpus [] others receipts called over = rw (same_Some receipts [] over)
+lines_count {q} {s} c cpus (line ∷ lines) others receipts called over =
     let f = first_then cpus nothing_known line lines receipts [] over in
     let p = after_parts cpus nothing_known line [] receipts f.left f.first in
-    let parts = called_later cpus (line ∷ (lines ++ others)) [] p.own f.left
-    (subst (AreCalled cpus (line ∷ (lines ++ others))) p.whole called) in
-    let first = own_count q s c cpus line p.own
-    (on_line cpus line (lines ++ others) [] p.own (λ xs. refl) parts.0 p.over) p.over in
-    let once : after_lines cpus nothing_known (line ∷ []) p.own ≡ Some [] =
-    ap (option_and_then (λ (xs : List Receipt). after_lines cpus nothing_known [] xs)) p.over in
-    let rest = lines_count q s c cpus lines others f.left
-    (called_past cpus (line ∷ []) (lines ++ others) p.own [] f.left once
-    (rw (append-nil p.own) parts.1)) f.others in
+    let parts = called_later cpus (line ∷ (lines ++ others)) [] p.own f.left (rw p.whole at called) in
+    let once : after_lines cpus nothing_known (line ∷ []) p.own ≡ Some [] = rw p.over in
     rw (
       p.whole,
       sum_by-append (λ (r : Receipt). cond (q r.event) 1 0) p.own f.left,
-      first,
-      rest,
+      own_count c cpus line p.own
+          (on_line cpus line (lines ++ others) [] p.own (λ xs. refl) parts.0 p.over) p.over,
+      lines_count c cpus lines others f.left
+          (called_past cpus (line ∷ []) (lines ++ others) p.own [] f.left once
+          (rw (append-nil p.own) parts.1)) f.others,
       counted_first s line lines,
     )

@@ -1,5 +1,5 @@
 -- The results of the steps of a script, in the receipts of its processor.
-use Rattle.std.proofs.Common.{◌≡◌, ℕ, Bool, true, List, [], ◌∷◌, ◌++◌, Some, get_or, map, filter, fold, refl, ap, sym, subst, ◌∙◌, arith, append-nil}
+use Rattle.std.proofs.Common.{◌≡◌, ℕ, Bool, true, List, [], ◌∷◌, ◌++◌, Some, get_or, map, filter, fold, refl, ap, sym, ◌∙◌, arith, append-nil}
 use Rattle.std.specs.List.{count_by}
 use Rattle.std.proofs.lemmas.List.Sums.{fold-append}
 use Rattle.std.proofs.lemmas.Option.{same_Some}
@@ -63,78 +63,54 @@ takes_one cpus event (r ∷ rs) over =
     let left = sym (over_now cpus nothing_known (Ask event) (r ∷ []) rs refl) ∙ over in
     (r, ap (λ (xs : List Receipt). r ∷ xs) (same_Some rs [] left))
 
--- what is known of the receipts of the steps: those of `front`, then the one, then those in between
-record Parted (cpus : ℕ) (front between later : List Step) (event : Event) (receipts : List Receipt)
-    : Type 0 where
-  past : List Receipt
-  one : Receipt
-  rest : List Receipt
-  whole : receipts ≡ past ++ one ∷ rest
-  past_over : after_lines cpus nothing_known front past ≡ Some []
-  rest_over : after_lines cpus nothing_known between rest ≡ Some []
-
-parted : (cpus : ℕ) (front between later : List Step) (event : Event) (receipts : List Receipt)
+-- the receipts of `front`, then the one, then those of the steps in between
+parted : (cpus : ℕ) (front between : List Step) (event : Event) (receipts : List Receipt)
     → after_lines cpus nothing_known (front ++ Ask event ∷ between) receipts ≡ Some []
-    → Parted cpus front between later event receipts
-parted cpus front between later event receipts over =
+    → (first : FirstAfter cpus front receipts)
+    × (after_lines cpus nothing_known between first.later ≡ Some [])
+parted cpus front between event receipts over =
     let b = lines_before cpus nothing_known front (Ask event ∷ between) receipts [] over in
     let p = lines_parts cpus nothing_known front receipts b.left b.before in
     let f = first_then cpus nothing_known (Ask event) between b.left [] b.then in
     let o = after_parts cpus nothing_known (Ask event) [] b.left f.left f.first in
     let t = takes_one cpus event o.own o.over in
-    record {
-      past = p.own;
-      one = t.0;
-      rest = f.left;
-      whole =
-          p.whole ∙ ap (λ (xs : List Receipt). p.own ++ xs)
-          (o.whole ∙ ap (λ (xs : List Receipt). xs ++ f.left) t.1);
-      past_over = p.over;
-      rest_over = f.others;
-    }
+    let whole =
+    p.whole ∙ ap (λ (xs : List Receipt). p.own ++ xs) (o.whole
+    ∙ ap (λ (xs : List Receipt). xs ++ f.left) t.1) in
+    (record { before = p.own; own = t.0; later = f.left; whole = whole; over = p.over }, f.others)
 
 pub found : (cpus : ℕ) (front between later : List Step) (event : Event) (receipts : List Receipt)
     → AreCalled cpus (front ++ Ask event ∷ (between ++ later)) receipts
     → after_lines cpus nothing_known (front ++ Ask event ∷ between) receipts ≡ Some []
     → IsFound cpus front between event receipts
 found cpus front between later event receipts called over =
-    let p = parted cpus front between later event receipts over in
-    let script = front ++ Ask event ∷ (between ++ later) in
-    let parts = called_later cpus script [] p.past (p.one ∷ p.rest)
-    (subst (AreCalled cpus script) p.whole called) in
-    let begun = lines_count (λ e. is_opening (mark_of e)) step_begins begins_count cpus front
-    (Ask event ∷ (between ++ later)) p.past parts.0 p.past_over in
-    let taken = lines_count takes_frame step_allocs allocs_count cpus front
-    (Ask event ∷ (between ++ later)) p.past parts.0 p.past_over in
-    let here = called_past cpus front (Ask event ∷ (between ++ later)) p.past [] (p.one ∷ p.rest) p.past_over
-    (rw (append-nil p.past) parts.1) in
-    let asked : p.one.event ≡ event = same_Some p.one.event event (sym here.0.1) in
-    let once : after_lines cpus nothing_known (Ask event ∷ []) (p.one ∷ []) ≡ Some [] = refl in
-    let after = called_past cpus (Ask event ∷ []) (between ++ later) (p.one ∷ []) [] p.rest once here.1 in
-    let between_begun = lines_count (λ e. is_opening (mark_of e)) step_begins begins_count cpus between later
-    p.rest after p.rest_over in
+    let both = parted cpus front between event receipts over in
+    let p = both.0 in
+    let others = Ask event ∷ (between ++ later) in
+    let parts = called_later cpus (front ++ others) [] p.before (p.own ∷ p.later) (rw p.whole at called) in
+    let begun = lines_count begins_count cpus front others p.before parts.0 p.over in
+    let taken = lines_count allocs_count cpus front others p.before parts.0 p.over in
+    let here = called_past cpus front others p.before [] (p.own ∷ p.later) p.over
+    (rw (append-nil p.before) parts.1) in
+    let asked : p.own.event ≡ event = same_Some p.own.event event (sym here.0.1) in
+    let after = called_past cpus (Ask event ∷ []) (between ++ later) (p.own ∷ []) [] p.later refl here.1 in
+    let between_begun = lines_count begins_count cpus between later p.later after both.1 in
     record {
-      first = record {
-        before = p.past;
-        own = p.one;
-        later = p.rest;
-        whole = p.whole;
-        over = p.past_over;
-      };
+      first = p;
       asked = asked;
       begun = λ opening.
           ap (λ (rs : List Receipt). get_or (operations_of rs) (count_by step_begins front) 0) p.whole
-          ∙ rw (← begun) (nth_there (λ r. is_opening (mark_of r.event)) (λ r. r.serial) p.past p.rest p.one 0
-          (rw asked opening));
+          ∙ rw (← begun) (nth_there (λ r. is_opening (mark_of r.event)) (λ r. r.serial) p.before p.later p.own
+          0 (rw asked opening));
       latest = λ opening none.
           ap own_operation p.whole
-          ∙ (fold-append later_operation 0 p.past (p.one ∷ p.rest)
-          ∙ (ap (λ (op : ℕ). fold later_operation op p.rest)
-          (last_begins (fold later_operation 0 p.past) p.one (rw asked opening))
-          ∙ latest_stays p.one.serial p.rest (between_begun ∙ none)));
+          ∙ (fold-append later_operation 0 p.before (p.own ∷ p.later)
+          ∙ (ap (λ (op : ℕ). fold later_operation op p.later)
+          (last_begins (fold later_operation 0 p.before) p.own (rw asked opening))
+          ∙ latest_stays p.own.serial p.later (between_begun ∙ none)));
       taken = λ takes.
           ap (λ (rs : List Receipt). get_or (frames_of rs) (count_by step_allocs front) no_frame) p.whole
-          ∙ rw (← taken) (nth_there (λ r. takes_frame r.event) (λ r. frame_in r.reply) p.past p.rest p.one
+          ∙ rw (← taken) (nth_there (λ r. takes_frame r.event) (λ r. frame_in r.reply) p.before p.later p.own
           no_frame (rw asked takes));
     }
   where

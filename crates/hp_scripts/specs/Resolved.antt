@@ -2,6 +2,7 @@
 -- order. The source of a line is the index of the line whose result it works on by name.
 use Rattle.std.specs.Prelude.{◌≡◌, ◌⊎◌, ℕ, List, [], ◌∷◌, ◌++◌, take, drop, Bool, false, Option, Some, None, map, min, nat_lt, slice_get}
 use Rattle.std.specs.List.{list_any}
+use Rattle.std.specs.Option.{option_map_or}
 use Rattle.hp_units.specs.declared.events.Event.{Event}
 use Rattle.hp_units.specs.declared.events.Event.TheVariants.{KernelFree, DrainFor, Migrate, Commit, Cancel}
 use Rattle.hp_units.specs.LayoutParts.{LayoutParts}
@@ -49,14 +50,9 @@ number_at numbers (Some place) = slice_get numbers place
 abbrev pub line_after : List ℕ → Option ℕ → Line → Line
 line_after numbers source line = line_with (number_at numbers source) line
 
--- the source (the index of a line), unless the number of that line's result is known
-abbrev pub left_if : Option ℕ → Option ℕ → Option ℕ
-left_if None source = source
-left_if (Some n) source = None
-
 -- the source (the index of a line), unless `numbers` has the number of that line's result
 abbrev pub source_after : List ℕ → Option ℕ → Option ℕ
-source_after numbers source = left_if (number_at numbers source) source
+source_after numbers source = option_map_or (λ n. None) (number_at numbers source) source
 
 -- ---- all lines
 

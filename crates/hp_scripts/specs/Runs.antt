@@ -2,7 +2,6 @@
 use Rattle.std.specs.Prelude.{◌≡◌, ◌⊎◌, ℕ, Bool, true, false, List}
 use Rattle.hp_units.specs.declared.events.Event.{Event}
 use Rattle.hp_units.specs.declared.plans.Item.{Item}
-use Rattle.hp_units.specs.declared.replies.CallFault.{CallFault}
 use Rattle.hp_units.specs.declared.replies.CallFault.TheVariants.{OutOfMemory}
 use Rattle.hp_units.specs.declared.replies.OpEnd.{OpEnd}
 use Rattle.hp_units.specs.declared.replies.OpEnd.TheVariants.{Left}
@@ -21,14 +20,9 @@ RunsEvent m cpu event new number =
     ⊎ ((r : Receipt) × (is_full m ≡ false) × IsCalled m cpu event r new
     × (number ≡ result_number event r.serial r.reply))
 
--- the call failed because memory ran out
-abbrev pub is_memory_fault : CallFault → Bool
-is_memory_fault OutOfMemory = true
-is_memory_fault fault = false
-
 -- the plan was left because memory ran out
 abbrev pub is_out_of_memory : OpEnd → Bool
-is_out_of_memory (Left op fault) = is_memory_fault fault
+is_out_of_memory (Left op OutOfMemory) = true
 is_out_of_memory end = false
 
 -- a plan was carried out, and memory did not run out

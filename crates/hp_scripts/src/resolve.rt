@@ -9,6 +9,7 @@ ghost use Rattle.hp_scripts.specs.Seen.{named_seen};
 use crate::bindings::Bindings;
 use crate::named::{NamedScenario, Sources};
 use crate::runs::run_line;
+use crate::script_results::source_at;
 use hp_machine::Machine;
 use hp_scenario::{Line, Lines, Scenario, Work};
 use hp_units::{Event, Frame, Layout, Serial};
@@ -149,18 +150,6 @@ fn take_away(sources: &mut [Option<usize>], numbers: &[u64])
         if number_at(numbers, sources[index]).is_some() {
             sources[index] = None;
         }
-    }
-}
-
-/// Returns the source of the line at `index`: the index of the line whose result it works on by
-/// name. Returns `None` if it has no source.
-fn source_at(sources: &[Option<usize>], index: usize) -> Option<usize>
-    ensures { result ≡ spec.first_source (drop index sources.now) }
-{
-    if index < sources.len() {
-        sources[index]
-    } else {
-        None
     }
 }
 

@@ -75,7 +75,7 @@ pub(crate) fn named_at(
 }
 
 /// Returns the source of the line at `place` (the line whose result it works on), if it has one.
-fn source_at(sources: &[Option<usize>], place: usize) -> Option<usize>
+pub(crate) fn source_at(sources: &[Option<usize>], place: usize) -> Option<usize>
     ensures { result ≡ option_flatten (slice_get sources.now place) }
 {
     match sources.get(place) {

@@ -6,8 +6,7 @@ use Rattle.hp_questions.proofs.limits.first_past.Goals as goal
 
 pub loop-index-preserved : goal.loop-index-preserved
 loop-index-preserved c = record {
-  none = none_more (λ (line : Wanted). IsPast c.args.layout.now line) c.args.wanted.now c.loop-index.index
-      c.index-wanted-index.result c.loop-index-test.true c.index-wanted-index.is
+  none = none_more (IsPast c.args.layout.now) _ _ _ c.loop-index-test.true c.index-wanted-index.is
       c.if-is_past.ensures c.loop-index.invariant.none;
 }
 

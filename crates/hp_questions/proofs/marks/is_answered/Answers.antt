@@ -1,15 +1,14 @@
 -- Only processors below the number have replies at the end.
 use Rattle.std.proofs.Common.{arith, subst}
-use Rattle.hp_schedules.specs.Outcomes.{replies_below, replies_to}
-use Rattle.hp_questions.specs.Wanted.{HasAnswer, HasReply}
+use Rattle.hp_schedules.specs.Outcomes.{replies_to}
+use Rattle.hp_questions.specs.Wanted.{HasReply}
 use Rattle.hp_questions.proofs.Below.{told_no}
 use Rattle.hp_questions.proofs.Marking.{below_at, below_is}
 use Rattle.hp_questions.proofs.marks.is_answered.Goals as goal
 
 pub returns-then-cpu-processors : goal.returns-then-cpu-processors
 returns-then-cpu-processors c =
-    told_no (HasAnswer c.args.reply.now (replies_below c.args.processors c.args.records.now) c.args.cpu)
-    (λ all.
+    told_no _ (λ all.
     let has = rw c.in-Some.is at all in
     let is = below_is c.args.processors c.args.records.now c.in-Some.cpu has.0 has.1 in
     omega (arith, is.0, c.if-cpu-processors.true, c.cpu.view_is))

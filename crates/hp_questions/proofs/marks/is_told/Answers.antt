@@ -2,36 +2,31 @@
 use Rattle.std.proofs.Common.{sym, ◌∙◌}
 use Rattle.std.proofs.lemmas.Bool.{iff_false}
 use Rattle.std.proofs.lemmas.List.{take_all}
-use Rattle.hp_schedules.specs.Outcomes.{replies_to}
-use Rattle.hp_questions.specs.Wanted.{HasReply}
 use Rattle.hp_questions.proofs.Below.{told_no, told_yes}
 use Rattle.hp_questions.proofs.Marking.{told_match, told_no_more, told_past}
 use Rattle.hp_questions.proofs.marks.is_told.Goals as goal
 
 pub loop-record-preserved-then-ne : goal.loop-record-preserved-then-ne
 loop-record-preserved-then-ne c = record {
-  none = rw (told_past c.args.cpu c.args.records.now c.loop-record.record-index c.record-item.result
-      c.loop-record-test.true c.record-item.is (sym c.ne.ensures ∙ c.if-ne.true))
-      c.loop-record.invariant.none;
+  none = rw (told_past c.args.cpu _ _ _ c.loop-record-test.true c.record-item.is
+      (sym c.ne.ensures ∙ c.if-ne.true)) c.loop-record.invariant.none;
 }
 
 pub loop-record-preserved : goal.loop-record-preserved
 loop-record-preserved c = record {
-  none = told_no_more c.args.cpu c.args.records.now c.loop-record.record-index c.record-item.result
-      c.loop-record-test.true c.record-item.is c.args.reply.now (sym c.ne.ensures ∙ c.if-ne.false)
+  none = told_no_more c.args.cpu _ _ _ c.loop-record-test.true c.record-item.is c.args.reply.now
+      (sym c.ne.ensures ∙ c.if-ne.false)
       (λ matches. iff_false c.is_met_by.ensures c.if-is_met_by.false (rw c.told-answer.ensures matches))
       c.loop-record.invariant.none;
 }
 
 pub returns-then-is_met_by : goal.returns-then-is_met_by
 returns-then-is_met_by c =
-    told_yes (HasReply c.args.reply.now (replies_to c.args.cpu c.args.records.now))
-    (told_match c.args.cpu c.args.records.now c.loop-record.record-index c.record-item.result
-    c.loop-record-test.true c.record-item.is c.args.reply.now (sym c.ne.ensures ∙ c.if-ne.false)
+    told_yes _ (told_match c.args.cpu _ _ _ c.loop-record-test.true c.record-item.is c.args.reply.now
+    (sym c.ne.ensures ∙ c.if-ne.false)
     (rw c.told-answer.ensures at (c.is_met_by.ensures.0 c.if-is_met_by.true)))
 
 pub returns : goal.returns
 returns c =
-    told_no (HasReply c.args.reply.now (replies_to c.args.cpu c.args.records.now))
-    (rw (take_all c.loop-record.record-index c.args.records.now c.loop-record-test.false) at
+    told_no _ (rw (take_all c.loop-record.record-index c.args.records.now c.loop-record-test.false) at
     c.loop-record.invariant.none)

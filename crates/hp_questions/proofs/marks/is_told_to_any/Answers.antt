@@ -1,9 +1,9 @@
 -- One processor more that got none; else it is the one.
-use Rattle.std.proofs.Common.{None, arith, subst}
+use Rattle.std.proofs.Common.{arith, subst}
 use borrow.Author.Count.{below_more}
 use Rattle.std.proofs.lemmas.Bool.{iff_false}
-use Rattle.hp_schedules.specs.Outcomes.{replies_below, replies_to}
-use Rattle.hp_questions.specs.Wanted.{HasAnswer, HasReply}
+use Rattle.hp_schedules.specs.Outcomes.{replies_to}
+use Rattle.hp_questions.specs.Wanted.{HasReply}
 use Rattle.hp_questions.proofs.Below.{told_no, told_yes}
 use Rattle.hp_questions.proofs.Marking.{below_at, below_is}
 use Rattle.hp_questions.proofs.marks.is_told_to_any.Goals as goal
@@ -16,7 +16,7 @@ loop-cpu-preserved c = record {
 
 pub returns-then-is_told : goal.returns-then-is_told
 returns-then-is_told c =
-    told_yes (HasAnswer c.args.reply.now (replies_below c.args.processors c.args.records.now) None) (
+    told_yes _ (
       c.loop-cpu.cpu,
       replies_to c.loop-cpu.cpu c.args.records.now,
       below_at c.args.processors c.args.records.now c.loop-cpu.cpu c.loop-cpu-test.true,
@@ -25,8 +25,7 @@ returns-then-is_told c =
 
 pub returns : goal.returns
 returns c =
-    told_no (HasAnswer c.args.reply.now (replies_below c.args.processors c.args.records.now) None)
-    (λ has.
+    told_no _ (λ has.
     let is = below_is c.args.processors c.args.records.now has.0 has.1 has.2 in
     c.loop-cpu.invariant.none has.0 (omega (arith, is.0, c.loop-cpu-test.false))
     (subst (HasReply c.args.reply.now) is.1 has.3))

@@ -9,15 +9,13 @@ use Rattle.hp_questions.proofs.marks.reply_at.Goals as goal
 pub loop-record-preserved-then-ne : goal.loop-record-preserved-then-ne
 loop-record-preserved-then-ne c =
     let same =
-    told_past c.args.cpu c.args.records.now c.loop-record.record-index c.record-item.result
-    c.loop-record-test.true c.record-item.is (sym c.ne.ensures ∙ c.if-ne.true) in
+    told_past c.args.cpu _ _ _ c.loop-record-test.true c.record-item.is (sym c.ne.ensures ∙ c.if-ne.true) in
     omega (arith, ap length same, c.loop-record.invariant)
 
 pub loop-record-preserved : goal.loop-record-preserved
 loop-record-preserved c =
     let more =
-    count_own c.args.cpu c.args.records.now c.loop-record.record-index c.record-item.result
-    c.loop-record-test.true c.record-item.is (sym c.ne.ensures ∙ c.if-ne.false) in
+    count_own c.args.cpu _ _ _ c.loop-record-test.true c.record-item.is (sym c.ne.ensures ∙ c.if-ne.false) in
     omega (arith, more, c.loop-record.invariant)
 
 pub returns-then-left-eq0 : goal.returns-then-left-eq0
@@ -26,8 +24,8 @@ returns-then-left-eq0 c =
     ≡ c.args.earlier =
     omega (arith, c.loop-record.invariant, c.if-left-eq0.true) in
     rw (c.told.ensures, ← place)
-    (sym (told_here c.args.cpu c.args.records.now c.loop-record.record-index c.record-item.result
-    c.loop-record-test.true c.record-item.is (sym c.ne.ensures ∙ c.if-ne.false)))
+    (sym (told_here c.args.cpu _ _ _ c.loop-record-test.true c.record-item.is
+    (sym c.ne.ensures ∙ c.if-ne.false)))
 
 pub returns : goal.returns
 returns c =

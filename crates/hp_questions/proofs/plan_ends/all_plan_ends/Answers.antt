@@ -15,7 +15,7 @@ loop-index-preserved c =
     let here : slice_index_or scripts index [] ≡ script =
     same_Some (slice_index_or scripts index []) script
     (sym (slice_get-get_or scripts index [] c.loop-index-test.true)
-    ∙ read_here scripts index script c.loop-index-test.true c.index-scripts-index.is) in
+    ∙ read_here _ _ _ c.loop-index-test.true c.index-scripts-index.is) in
     rw (
       c.push_reserved.ensures.items,
       c.in_ok-reserve.ensures.items,

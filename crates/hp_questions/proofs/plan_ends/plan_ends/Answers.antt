@@ -1,5 +1,5 @@
 -- Each reply is read in turn.
-use Rattle.std.proofs.Common.{◌≡◌, ◌<◌, ◌++◌, arith, length, refl, take}
+use Rattle.std.proofs.Common.{◌≡◌, ◌++◌, arith, refl, take}
 use Rattle.std.specs.Option.{option_to_list}
 use Rattle.std.proofs.lemmas.List.{append-nil, take_all}
 use Rattle.std.proofs.lemmas.Option.{slice_get_read}
@@ -13,34 +13,24 @@ pub loop-reply-init : goal.loop-reply-init
 loop-reply-init c =
     rw c.new-calls.ensures.items
     (read_none c.args.cpus c.from_ref-scripts.result.now 0 c.in_ok-positions.positions.cursors.items
-    c.new-ends.result.items c.in_ok-positions.ensures.many
-    (λ g scripts cpus. c.in_ok-positions.ensures.begun g scripts cpus) c.new-ends.ensures.items)
+    c.new-ends.result.items c.in_ok-positions.ensures.many c.in_ok-positions.ensures.begun
+    c.new-ends.ensures.items)
 
 pub loop-reply-preserved-in_default : goal.loop-reply-preserved-in_default
 loop-reply-preserved-in_default c =
-    let cpus = c.args.cpus in
-    let scripts = c.from_ref-scripts.result.now in
-    let within : 0 < length scripts = omega (arith, c.from_ref-scripts.ensures.len) in
-    let here =
-    slice_get_read c.args.replies.now (length c.args.replies.now) c.loop-reply.reply-index
-    c.reply-item.result refl c.loop-reply-test.true c.reply-item.is in
     rw (
       ← c.as_slice.ensures.value,
-      take_one c.args.replies.now c.loop-reply.reply-index c.reply-item.result here,
+      take_one c.args.replies.now c.loop-reply.reply-index c.reply-item.result
+          (slice_get_read _ _ _ _ refl c.loop-reply-test.true c.reply-item.is),
     )
-    (read_past cpus scripts 0 c.loop-reply.positions.cursors.items c.as_slice.result.now
-    (take c.loop-reply.reply-index c.args.replies.now) c.loop-reply.ends.items c.reply-item.result within
+    (read_past c.args.cpus c.from_ref-scripts.result.now 0 c.loop-reply.positions.cursors.items
+    c.as_slice.result.now (take c.loop-reply.reply-index c.args.replies.now) c.loop-reply.ends.items
+    c.reply-item.result (omega (arith, c.from_ref-scripts.ensures.len))
     (rw (c.as_slice.ensures.value, c.in_ok-reserve.ensures.items) c.loop-reply.invariant)
     (λ g scripts cpus all. rw c.in_default.is at (c.in_ok-call.ensures g scripts cpus all)))
 
 pub loop-reply-preserved : goal.loop-reply-preserved
 loop-reply-preserved c =
-    let cpus = c.args.cpus in
-    let scripts = c.from_ref-scripts.result.now in
-    let within : 0 < length scripts = omega (arith, c.from_ref-scripts.ensures.len) in
-    let here =
-    slice_get_read c.args.replies.now (length c.args.replies.now) c.loop-reply.reply-index
-    c.reply-item.result refl c.loop-reply-test.true c.reply-item.is in
     let ended : c.match-end_of.ends.items
     ≡ c.loop-reply.ends.items ++ option_to_list (end_finished c.answered.result) =
     elim c.match-end_of.branch [
@@ -52,19 +42,17 @@ loop-reply-preserved c =
     rw (
       c.push_reserved.ensures.items,
       ← c.as_slice.ensures.value,
-      take_one c.args.replies.now c.loop-reply.reply-index c.reply-item.result here,
+      take_one c.args.replies.now c.loop-reply.reply-index c.reply-item.result
+          (slice_get_read _ _ _ _ refl c.loop-reply-test.true c.reply-item.is),
     )
-    (read_more cpus scripts 0 c.loop-reply.positions.cursors.items
-    c.go_on.new.self.cursors.items c.as_slice.result.now (take c.loop-reply.reply-index c.args.replies.now)
-    c.loop-reply.ends.items c.match-end_of.ends.items c.reply-item.result c.in-Some.call
-    c.in_ok-copy.field-0 c.answered.result within
+    (read_more c.args.cpus c.from_ref-scripts.result.now 0 c.loop-reply.positions.cursors.items
+    c.as_slice.result.now (take c.loop-reply.reply-index c.args.replies.now) c.loop-reply.ends.items
+    c.reply-item.result (omega (arith, c.from_ref-scripts.ensures.len))
     (rw (c.as_slice.ensures.value, c.in_ok-reserve.ensures.items) c.loop-reply.invariant)
-    c.in_ok-copy.ensures.ok
+    c.go_on.new.self.cursors.items c.match-end_of.ends.items c.in-Some.call c.in_ok-copy.field-0
+    c.answered.result c.in_ok-copy.ensures.ok
     (λ g scripts cpus all. rw c.in-Some.is at (c.in_ok-call.ensures g scripts cpus all))
-    c.go_on.ensures.many
-    (λ g news scripts cpus all asked. c.go_on.ensures.later g news scripts cpus all asked)
-    (λ g news scripts asked all. c.answered.ensures g news scripts asked all)
-    ended)
+    c.go_on.ensures.many c.go_on.ensures.later c.answered.ensures ended)
 
 -- the script is the only one
 pub returns : goal.returns

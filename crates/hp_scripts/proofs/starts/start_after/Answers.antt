@@ -1,22 +1,23 @@
 -- The machine after the lines is the one that they lead to, and the scripts are those of the lines
 -- after them.
-use Rattle.std.proofs.Common.{List, ◌++◌, ap, arith, ◌∙◌}
-use Rattle.hp_units.specs.declared.replies.Record.{Record}
-use Rattle.hp_scripts.specs.Begins.{begins_in}
-use Rattle.hp_scripts.proofs.Started.{scripts_fit, started}
+use Rattle.std.proofs.Common.{arith}
+use Rattle.std.proofs.lemmas.List.FromFn.{length-map-range_with_len}
+use Rattle.hp_scripts.specs.Scripts.{script_of}
 use Rattle.hp_scripts.proofs.starts.start_after.Goals as goal
 
 pub returns-clause-is : goal.returns-clause-is
-returns-clause-is c =
-    started c.args.layout.now c.cpus.result c.args.before.now c.args.after.now c.args.sources.now _
-    c.run_lines.new.machine _ c.run_lines.new.begins.items c.deref.result.now c.in_ok-scripts.scripts.items
-    c.in_ok-machine.ensures c.new-begins.ensures.items c.in_ok-run_lines.ensures
-    (c.deref.ensures.value ∙ (c.in_ok-note_begins.ensures
-    ∙ ap (λ (h : List Record). c.run_lines.new.begins.items ++ begins_in h) c.history.ensures.records))
-    c.cpus.ensures.is c.in_ok-scripts.ensures
+returns-clause-is c = record {
+  sealed = c.run_lines.new.begins.items;
+  run = rw (c.in_ok-machine.ensures, c.new-begins.ensures.items) at c.in_ok-run_lines.ensures;
+  are = rw (c.deref.ensures.value, c.in_ok-note_begins.ensures, c.history.ensures.records, c.cpus.ensures.is)
+      at c.in_ok-scripts.ensures;
+}
 
 pub returns-clause-few : goal.returns-clause-few
 returns-clause-few c =
-    scripts_fit c.cpus.result c.deref.result.now c.args.after.now c.args.sources.now
-    c.in_ok-scripts.scripts.items
-    (omega (arith, c.cpus.ensures.is, c.cpus.ensures.layout.cpus)) c.in_ok-scripts.ensures
+    rw (
+      c.in_ok-scripts.ensures,
+      length-map-range_with_len
+          (script_of c.deref.result.now c.args.after.now c.args.sources.now) 0 c.cpus.result,
+    )
+    (omega (arith, c.cpus.ensures.is, c.cpus.ensures.layout.cpus))

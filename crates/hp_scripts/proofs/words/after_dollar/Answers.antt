@@ -1,6 +1,5 @@
 use Rattle.std.proofs.Common.{◌≡◌, ◌==◌, ◌<◌, ℕ, Bool, false, arith, zero, suc}
 use Rattle.std.proofs.lemmas.Str.{IsCharBoundary-after_ascii}
-use Rattle.hp_scripts.proofs.NamedLists.{dollar_first}
 use Rattle.hp_scripts.proofs.words.after_dollar.Goals as goal
 
 not_empty : (n : ℕ) (b : Bool) → b ≡ (n == 0) → b ≡ false → 0 < n
@@ -9,7 +8,6 @@ not_empty (suc n) b is h = omega arith
 
 pub range_from-requires : goal.range_from-requires
 range_from-requires c =
-    let some = not_empty _ _ c.is_empty.ensures c.if-is_empty.false in
-    let first = dollar_first c.as_bytes-bytes.result.now c.args.word.now c.as_bytes-bytes.ensures.value some
-    c.if-bytes-ne36.false in
-    λ _. IsCharBoundary-after_ascii c.args.word.now 0 c.utf8.word first.0 (omega (arith, first.1))
+    let some = rw c.as_bytes-bytes.ensures.value at (not_empty _ _ c.is_empty.ensures c.if-is_empty.false) in
+    let dollar = rw c.as_bytes-bytes.ensures.value at c.if-bytes-ne36.false in
+    λ _. IsCharBoundary-after_ascii c.args.word.now 0 c.utf8.word some (omega (arith, dollar))

@@ -1,5 +1,5 @@
-use Rattle.std.proofs.Common.{◌-◌, length, sym, arith}
-use Rattle.hp_scripts.proofs.NamedLists.{last_two_ends, last_two_lacks}
+use Rattle.std.proofs.Common.{◌≡◌, ◌-◌, suc, length, sym, arith}
+use Rattle.hp_scripts.proofs.NamedLists.{last_two_lacks, last_two_there}
 use Rattle.hp_scripts.proofs.words.last_two.Goals as goal
 
 pub returns-in_default : goal.returns-in_default
@@ -8,6 +8,5 @@ returns-in_default c = sym (last_two_lacks c.args.words.now (omega (arith, c.in_
 pub returns-in-len2-up : goal.returns-in-len2-up
 returns-in-len2-up c =
     let words = c.args.words.now in
-    sym (last_two_ends words (length words - 2) (length words - 1) _
-    (omega (arith, c.in-len2-up.len_at_least))
-    (omega (arith, c.in-len2-up.len_at_least)))
+    let next : length words - 1 ≡ suc (length words - 2) = omega (arith, c.in-len2-up.len_at_least) in
+    rw next (sym (last_two_there words (length words - 2) _ (omega (arith, c.in-len2-up.len_at_least))))

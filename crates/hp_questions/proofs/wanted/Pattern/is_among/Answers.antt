@@ -5,17 +5,15 @@ use Rattle.hp_questions.proofs.wanted.Pattern.is_among.Goals as goal
 
 pub loop-index-preserved : goal.loop-index-preserved
 loop-index-preserved c = record {
-  none = none_more (IsAsWanted c.args.self.now) c.args.replies.now c.loop-index.index
-      c.index-replies-index.result c.loop-index-test.true c.index-replies-index.is c.if-is_met_by.ensures
-      c.loop-index.invariant.none;
+  none = none_more (IsAsWanted c.args.self.now) _ _ _ c.loop-index-test.true c.index-replies-index.is
+      c.if-is_met_by.ensures c.loop-index.invariant.none;
 }
 
 pub returns-then-is_met_by : goal.returns-then-is_met_by
 returns-then-is_met_by c =
-    one_has (IsAsWanted c.args.self.now) c.args.replies.now c.loop-index.index c.index-replies-index.result
-    c.loop-index-test.true c.index-replies-index.is (c.is_met_by.ensures.0 c.if-is_met_by.true)
+    one_has (IsAsWanted c.args.self.now) _ _ _ c.loop-index-test.true c.index-replies-index.is
+    (c.is_met_by.ensures.0 c.if-is_met_by.true)
 
 pub returns : goal.returns
 returns c =
-    none_has (IsAsWanted c.args.self.now) c.args.replies.now c.loop-index.index c.loop-index-test.false
-    c.loop-index.invariant.none
+    none_has (IsAsWanted c.args.self.now) _ _ c.loop-index-test.false c.loop-index.invariant.none

@@ -5,19 +5,15 @@ use Rattle.hp_questions.proofs.wanted.Pattern.is_among_all.Goals as goal
 
 pub loop-index-preserved : goal.loop-index-preserved
 loop-index-preserved c = record {
-  none = none_more (HasReply c.args.self.now) c.args.all.now c.loop-index.index c.index-all-index.result
-      c.loop-index-test.true c.index-all-index.is
-      (rw c.as_slice.ensures at c.if-is_among.ensures)
-      c.loop-index.invariant.none;
+  none = none_more (HasReply c.args.self.now) _ _ _ c.loop-index-test.true c.index-all-index.is
+      (rw c.as_slice.ensures at c.if-is_among.ensures) c.loop-index.invariant.none;
 }
 
 pub returns-then-is_among : goal.returns-then-is_among
 returns-then-is_among c =
-    one_has (HasReply c.args.self.now) c.args.all.now c.loop-index.index c.index-all-index.result
-    c.loop-index-test.true c.index-all-index.is
+    one_has (HasReply c.args.self.now) _ _ _ c.loop-index-test.true c.index-all-index.is
     (rw c.as_slice.ensures at (c.is_among.ensures.0 c.if-is_among.true))
 
 pub returns : goal.returns
 returns c =
-    none_has (HasReply c.args.self.now) c.args.all.now c.loop-index.index c.loop-index-test.false
-    c.loop-index.invariant.none
+    none_has (HasReply c.args.self.now) _ _ c.loop-index-test.false c.loop-index.invariant.none
