@@ -1,8 +1,8 @@
 -- Findings that are added by one step after another.
-use Rattle.std.proofs.Common.{◌≡◌, ℕ, ◌+◌, ◌<◌, ◌≤◌, Bool, ◌&&◌, List, [], ◌∷◌, ◌++◌, length, get_or, take, Option, None, refl, sym, ap, subst, ◌∙◌, append_assoc, append-nil, arith}
+use Rattle.std.proofs.Common.{◌≡◌, ℕ, ◌+◌, ◌<◌, Bool, true, false, ◌&&◌, List, [], ◌∷◌, ◌++◌, length, get_or, take, Option, None, refl, sym, ap, append_assoc, append-nil, arith}
 use Rattle.std.specs.List.{list_all}
 use Rattle.std.specs.Option.{option_or}
-use Rattle.std.proofs.lemmas.List.{length-take, take_all, take_more}
+use Rattle.std.proofs.lemmas.List.{length-take, take_more}
 use Rattle.std.proofs.lemmas.List.Elements.{All-append, All-cons, All-nil, All-weaker}
 use Rattle.std.proofs.lemmas.List.Folds.{list_all_more}
 use Rattle.hp_scenario.specs.declared.fault.ScenarioFault.{ScenarioFault}
@@ -20,7 +20,7 @@ one_added P fault f old new is cause first = grind (arith, All-cons, All-nil)
 
 pub of_fault : {P : Finding → Type 0} {a b : Option ScenarioFault} {old new : List Finding} → a ≡ b
     → Adds P a old new → Adds P b old new
-of_fault {P} {a} {b} {old} {new} e h = subst (λ (fault : Option ScenarioFault). Adds P fault old new) e h
+of_fault e h = rw e at h
 
 pub by_cause : {P Q : Finding → Type 0} {fault : Option ScenarioFault} {old new : List Finding}
     → ((f : Finding) → P f → Q f) → Adds P fault old new → Adds Q fault old new
@@ -29,29 +29,23 @@ by_cause {P} {Q} weaker h = grind (arith, All-weaker)
 -- what is added to no findings
 pub from_none : {P : Finding → Type 0} {fault : Option ScenarioFault} {old new : List Finding} → old ≡ []
     → Adds P fault old new → Adds P fault [] new
-from_none {P} {fault} {old} {new} e h = subst (λ (l : List Finding). Adds P fault l new) e h
+from_none e h = rw e at h
 
 -- ---- two steps
 
-first_of_two : (a b : Option ScenarioFault) (xs ys : List Finding) → IsFirst a xs → IsFirst b ys
-    → IsFirst (option_or a b) (xs ++ ys)
-first_of_two a b xs ys none h = grind arith
-
 pub both_added : {P : Finding → Type 0} {a b : Option ScenarioFault} {old mid new : List Finding}
     → Adds P a old mid → Adds P b mid new → Adds P (option_or a b) old new
-both_added {P} {a} {b} {old} {mid} {new} one two = record {
+both_added {P} {a} {b} one two = record {
   added = one.added ++ two.added;
-  is = rw (two.is, one.is, append_assoc old one.added two.added);
+  is = rw (two.is, one.is, append_assoc);
   each = All-append P one.added two.added one.each two.each;
-  first = first_of_two a b one.added two.added one.first two.first;
+  first = grind (arith, one.first, two.first);
 }
-
-lacks_either : (a b : Bool) → option_or (lacks a) (lacks b) ≡ lacks (a && b)
-lacks_either a b = grind arith
 
 pub both_lack : (a b : Bool) {P : Finding → Type 0} {old mid new : List Finding}
     → Adds P (lacks a) old mid → Adds P (lacks b) mid new → Adds P (lacks (a && b)) old new
-both_lack a b one two = of_fault (lacks_either a b) (both_added one two)
+both_lack true b one two = both_added one two
+both_lack false b one two = both_added one two
 
 pub of_test : {P : Finding → Type 0} {a b : Bool} {old new : List Finding} → a ≡ b
     → Adds P (lacks a) old new → Adds P (lacks b) old new
@@ -67,7 +61,7 @@ or_none a = grind arith
 
 last_at : {X : Type 0} (f : ℕ → X → Option ScenarioFault) (number : ℕ) (xs : List X) (x : X)
     → first_at f number (xs ++ x ∷ []) ≡ option_or (first_at f number xs) (f (number + length xs) x)
-last_at f number [] x = or_none (f number x) ∙ ap (λ (n : ℕ). f n x) (omega arith)
+last_at f number [] x = grind (arith, or_none)
 last_at f number (y ∷ ys) x = grind (arith, or_assoc, (last_at f (number + 1) ys x))
 
 -- one item more
@@ -75,15 +69,9 @@ pub item_added : {X : Type 0} {P : Finding → Type 0} (f : ℕ → X → Option
     (d : X) {old now next : List Finding}
     → i < length xs → Adds P (first_at f 1 (take i xs)) old now → Adds P (f (i + 1) (get_or xs i d)) now next
     → Adds P (first_at f 1 (take (i + 1) xs)) old next
-item_added {X} f xs i d lt so_far more =
+item_added f xs i d lt so_far more =
     let counted : 1 + length (take i xs) ≡ i + 1 = omega (arith, length-take i xs) in
     rw (take_more xs i d lt, last_at f 1 (take i xs) (get_or xs i d), counted) (both_added so_far more)
-
--- all items
-pub items_added : {X : Type 0} {P : Finding → Type 0} (f : ℕ → X → Option ScenarioFault) (xs : List X) (i : ℕ)
-    {old now : List Finding}
-    → length xs ≤ i → Adds P (first_at f 1 (take i xs)) old now → Adds P (first_at f 1 xs) old now
-items_added {X} f xs i over so_far = of_fault (ap (first_at f 1) (take_all i xs over)) so_far
 
 -- the same for a test of each item
 pub test_added : {X : Type 0} {P : Finding → Type 0} (p : X → Bool) (xs : List X) (i : ℕ) (d : X)
@@ -91,9 +79,4 @@ pub test_added : {X : Type 0} {P : Finding → Type 0} (p : X → Bool) (xs : Li
     → i < length xs → Adds P (lacks (list_all p (take i xs))) old now
     → Adds P (lacks (p (get_or xs i d))) now next
     → Adds P (lacks (list_all p (take (i + 1) xs))) old next
-test_added p xs i d lt so_far more = of_test (sym (list_all_more p xs i d lt)) (both_lack _ _ so_far more)
-
-pub tests_added : {X : Type 0} {P : Finding → Type 0} (p : X → Bool) (xs : List X) (i : ℕ)
-    {old now : List Finding}
-    → length xs ≤ i → Adds P (lacks (list_all p (take i xs))) old now → Adds P (lacks (list_all p xs)) old now
-tests_added {X} p xs i over so_far = of_test (ap (list_all p) (take_all i xs over)) so_far
+test_added p xs i d lt so_far more = rw (list_all_more p xs i d lt) (both_lack _ _ so_far more)

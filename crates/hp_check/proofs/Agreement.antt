@@ -1,32 +1,28 @@
 -- The first finding is the fault that reading gives, and each has its cause.
-use Rattle.std.proofs.Common.{◌≡◌, ℕ, ◌+◌, ◌≤◌, Bool, true, false, cond, List, [], ◌∷◌, codes, count_by, length, Option, Some, None, Result, Ok, is_some, option_and_then, refl, arith}
+use Rattle.std.proofs.Common.{◌≡◌, ℕ, ◌+◌, ◌≤◌, Bool, true, cond, List, [], ◌∷◌, codes, count_by, length, Option, Some, None, Result, Ok, is_some, refl, arith}
 use Rattle.std.specs.List.{All}
 use Rattle.std.specs.Option.{option_map, option_or}
 use Rattle.std.proofs.lemmas.List.Elements.{All-head, All-nil, All-tail, All-weaker}
 use Rattle.std.proofs.lemmas.List.Sums.{sum_by-cons}
 use Rattle.std.proofs.lemmas.Option.{same_Some}
 use Rattle.serde_json.specs.Data.{Data}
-use Rattle.serde_json.specs.Find.{get}
 use Rattle.hp_units.specs.LayoutParts.{LayoutParts, layout_fault}
 use Rattle.hp_units.specs.declared.layouts.LayoutFault.{LayoutFault}
-use Rattle.hp_scenario.specs.Form.{Form, boots_at, form_of, has_keys, parts_of, parts_with, texts_at}
+use Rattle.hp_scenario.specs.Form.{Form, form_of, parts_of, texts_at}
 use Rattle.hp_scenario.specs.Gives.{◌>>=◌, or_fault}
 use Rattle.hp_scenario.specs.Scenario.{json_of, layout_or}
 use Rattle.hp_scenario.specs.declared.fault.ScenarioFault.{ScenarioFault}
 use Rattle.hp_scenario.specs.declared.fault.ScenarioFault.TheVariants.{NotJson, BadShape, Layout}
 use Rattle.hp_scripts.specs.Named.{NamedValue, ReadingValue, lines_from, named_in, named_of, named_with, nothing}
-use Rattle.hp_check.specs.Adds.{Adds, IsFirst, IsLayout, IsNotJson, IsRepeat, IsShape, IsWarning, ValueCause, fault_in, lacks, limit_fault_of}
+use Rattle.hp_check.specs.Adds.{Adds, IsLayout, IsNotJson, IsRepeat, IsShape, IsWarning, ValueCause, fault_in, lacks, limit_fault_of}
 use Rattle.hp_check.specs.Calls.{IsBadCall, calls_fault, entries_in}
 use Rattle.hp_check.specs.Checking.{Agrees, Begins, HasCause, HaveCauses, IsFindingOf, IsPastLimits}
 use Rattle.hp_check.specs.Findings.{is_fault}
 use Rattle.hp_check.specs.Ranges.{parts_in}
 use Rattle.hp_check.specs.declared.finding.Finding.{Finding}
 use Rattle.hp_check.specs.declared.finding.Finding.TheVariants as finding
-use Rattle.hp_check.specs.declared.finding.Key.{Key}
-use Rattle.hp_check.specs.declared.finding.ScenarioObject.{ScenarioObject}
 use Rattle.hp_check.proofs.Added.{both_added, by_cause, of_fault}
 use Rattle.hp_check.proofs.Entries.{calls_stop}
-use Rattle.hp_check.proofs.Forms.{form_made}
 
 -- ---- what a form comes of
 
@@ -35,24 +31,9 @@ pub record IsMade (d : Data) (form : Form) : Type 0 where
   pub parts : parts_in d ≡ Some form.parts
   pub calls : texts_at (codes "calls") d ≡ Some form.calls
 
-if_some : {A : Type 0} (b : Bool) (o : Option A) (x : A) → cond b o None ≡ Some x → o ≡ Some x
-if_some b o x h = grind arith
-
-parts_read : (l : Data) (p : LayoutParts) → parts_of l ≡ Some p
-    → option_and_then (λ boot. parts_with boot l) (boots_at (codes "boot") l) ≡ Some p
-unfolding parts_of
-parts_read l p h = grind (arith, if_some)
-
-made_of : (d : Data) (layout : Option Data) (form : Form) → get (codes "layout") d ≡ layout
-    → option_and_then (λ l. option_and_then (λ p. option_and_then (λ ts. Some (form_made p ts))
-    (texts_at (codes "calls") d)) (parts_of l)) layout ≡ Some form
-    → IsMade d form
-unfolding parts_in
-made_of d layout form e h = grind (arith, parts_read, same_Some)
-
 form_is_made : (d : Data) (form : Form) → form_of d ≡ Some form → IsMade d form
-unfolding form_of
-form_is_made d form h = made_of d (get (codes "layout") d) form refl (if_some (has_keys 2 d) _ form h)
+unfolding form_of parts_of parts_in
+form_is_made d form h = grind (arith, same_Some)
 
 -- ---- the first fault of a value
 
@@ -130,9 +111,7 @@ pub value_found : (d : Data) (old shape limits new : List Finding)
     → Adds (ValueCause d) (fault_in (named_of d)) old new
 value_found d old shape limits new one two three =
     of_fault (value_fault d)
-    (both_added
-    (both_added (by_fault (lacks (is_some (form_of d))) (shape_cause d) one)
-    (by_fault (limit_fault_of (parts_in d)) (layout_cause d) two))
+    (both_added (both_added (by_fault _ (shape_cause d) one) (by_fault _ (layout_cause d) two))
     (by_cause (call_cause d) three))
 
 -- the faults of a text that is JSON, and of one that is none
@@ -158,50 +137,30 @@ pub warnings_have_causes : (input : List ℕ) (s : NamedValue) (found : List Fin
     → named_in input ≡ Ok s → All (IsWarning (length s.scenario.lines)) found → HaveCauses input found
 warnings_have_causes input s found e all = grind (arith, All-weaker)
 
-no_fault : (lines : ℕ) (f : Finding) → IsWarning lines f → is_fault f ≡ false
-no_fault lines f h = grind arith
-
-counted : (b : Bool) (f : Finding) (fs : List Finding) → is_fault f ≡ b
-    → count_by is_fault (f ∷ fs) ≡ cond b 1 0 + count_by is_fault fs
-counted b f fs h = rw (← h) (sum_by-cons (λ x. cond (is_fault x) 1 0) f fs)
+counted : (f : Finding) (fs : List Finding)
+    → count_by is_fault (f ∷ fs) ≡ cond (is_fault f) 1 0 + count_by is_fault fs
+counted f fs = sum_by-cons (λ x. cond (is_fault x) 1 0) f fs
 
 none_counted : (lines : ℕ) (found : List Finding) → All (IsWarning lines) found → count_by is_fault found ≡ 0
 none_counted lines [] all = refl
 none_counted lines (f ∷ fs) all =
-    omega (
-      arith,
-      counted false f fs (no_fault lines f (All-head (IsWarning lines) f fs all)),
-      none_counted lines fs (All-tail (IsWarning lines) f fs all),
-    )
+    grind (arith, counted, All-head, (none_counted lines fs (All-tail (IsWarning lines) f fs all)))
 
 pub warnings_agree : (input : List ℕ) (s : NamedValue) (found : List Finding) → named_in input ≡ Ok s
     → All (IsWarning (length s.scenario.lines)) found → Agrees (named_in input) found
 warnings_agree input s found e all = rw e (none_counted (length s.scenario.lines) found all)
 
-not_a_repeat : (fault : ScenarioFault) (p : ScenarioObject) (k : Key)
-    → IsFindingOf fault (finding.Repeat p k) → ⊥
-not_a_repeat fault p k h = grind arith
-
 first_is_fault : (fault : ScenarioFault) (f : Finding) → IsFindingOf fault f → is_fault f ≡ true
-first_is_fault fault f h = grind (arith, not_a_repeat)
+first_is_fault fault f h = grind arith
 
 some_fault : (fault : ScenarioFault) (found : List Finding) → Begins fault found → 1 ≤ count_by is_fault found
 some_fault fault [] h = absurd h
-some_fault fault (f ∷ fs) h = omega (arith, counted true f fs (first_is_fault fault f h))
-
-agrees_of : (r : Result NamedValue ScenarioFault) (found : List Finding) → IsFirst (fault_in r) found
-    → Agrees r found
-agrees_of r found h = grind (arith, some_fault)
-
--- what was added to nothing is all
-all_added : {P : Finding → Type 0} {fault : Option ScenarioFault} {found : List Finding}
-    → Adds P fault [] found → IsFirst fault found × All P found
-all_added {P} {fault} h = grind arith
+some_fault fault (f ∷ fs) h = grind (arith, counted, first_is_fault)
 
 pub faults_agree : (input : List ℕ) (found : List Finding)
     → Adds (HasCause input) (fault_in (named_in input)) [] found → Agrees (named_in input) found
-faults_agree input found h = agrees_of (named_in input) found (all_added h).0
+faults_agree input found h = grind (arith, some_fault)
 
 pub faults_have_causes : (input : List ℕ) (found : List Finding)
     → Adds (HasCause input) (fault_in (named_in input)) [] found → HaveCauses input found
-faults_have_causes input found h = (all_added h).1
+faults_have_causes input found h = grind arith

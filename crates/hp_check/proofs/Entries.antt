@@ -1,7 +1,7 @@
 -- The first entry of `calls` that is no line is the line that reading stops at.
-use Rattle.std.proofs.Common.{◌≡◌, ℕ, ◌+◌, ◌<◌, ◌≤◌, cond, List, [], ◌∷◌, ◌++◌, codes, length, get_or, map, slice_get, take, Option, Some, None, Result, is_some, option_and_then, refl, sym, ap, ◌∙◌, arith}
+use Rattle.std.proofs.Common.{◌≡◌, ℕ, ◌+◌, ◌<◌, cond, List, [], ◌∷◌, ◌++◌, codes, length, get_or, map, slice_get, take, Option, Some, None, Result, is_some, option_and_then, refl, sym, ap, ◌∙◌, arith}
 use Rattle.std.specs.Option.{option_map, option_or}
-use Rattle.std.proofs.lemmas.List.{get_or-map, length-append, length-take, take_all, take_more}
+use Rattle.std.proofs.lemmas.List.{get_or-map, length-append, length-take, take_more}
 use Rattle.std.proofs.lemmas.Option.{same_Some, slice_get_read}
 use Rattle.serde_json.specs.Data.{Data, Items, no_items, item}
 use Rattle.serde_json.specs.Find.{get, as_array, as_str}
@@ -21,7 +21,7 @@ use Rattle.hp_check.specs.Adds.{Adds, fault_in}
 use Rattle.hp_check.specs.Calls.{IsBadCall, IsBadText, bound_past, bound_text, bound_through, calls_fault, data_of, entries_in, entry_fault, items_or_none, text_fault}
 use Rattle.hp_check.specs.declared.finding.Finding.{Finding}
 use Rattle.hp_check.specs.declared.finding.Finding.TheVariants as finding
-use Rattle.hp_check.proofs.Added.{both_added, by_cause, none_added, of_fault, or_assoc, or_none}
+use Rattle.hp_check.proofs.Added.{both_added, by_cause, or_assoc, or_none}
 
 -- ---- entries
 
@@ -42,7 +42,7 @@ entry_there vs i v lt at = ap view at ∙ sym (get_or-map view vs i v (view v) l
 bound_more : (place : ℕ) (bound : Bound) (ds : List Data) (d : Data)
     → bound_through place bound (ds ++ d ∷ [])
     ≡ bound_past (place + length ds) (bound_through place bound ds) d
-bound_more place bound [] d = ap (λ (n : ℕ). bound_past n bound d) (omega arith)
+bound_more place bound [] d = grind arith
 bound_more place bound (e ∷ ds) d = grind (arith, (bound_more (place + 1) (bound_past place bound e) ds d))
 
 fault_more : (place : ℕ) (bound : Bound) (ds : List Data) (d : Data)
@@ -65,10 +65,6 @@ pub record AreLookedAt (ds : List Data) (i : ℕ) (old now : List Finding) (boun
   pub found : Adds (IsBadCall ds) (calls_fault 0 [] (take i ds)) old now
   pub names : bound ≡ bound_through 0 [] (take i ds)
 
-pub none_looked_at : (ds : List Data) (old : List Finding) (bound : Bound) → bound ≡ []
-    → AreLookedAt ds 0 old old bound
-none_looked_at ds old bound none = record { found = none_added (IsBadCall ds) old; names = none }
-
 pub entry_added : (ds : List Data) (i : ℕ) (d : Data) (bound last : Bound) {old now next : List Finding}
     → i < length ds → d ≡ get_or ds i d → AreLookedAt ds i old now bound
     → Adds (IsBadText i bound d) (entry_fault i bound d) now next → last ≡ bound_past i bound d
@@ -82,10 +78,6 @@ entry_added ds i d bound last {old} {now} {next} lt at so_far more is =
           (both_added so_far.found (by_cause (rw so_far.names cause) more));
       names = rw (front, bound_more 0 [] (take i ds) d, counted, ← so_far.names) is;
     }
-
-pub entries_added : (ds : List Data) (i : ℕ) (bound : Bound) {old now : List Finding} → length ds ≤ i
-    → AreLookedAt ds i old now bound → Adds (IsBadCall ds) (calls_fault 0 [] ds) old now
-entries_added ds i bound over so_far = of_fault (ap (calls_fault 0 []) (take_all i ds over)) so_far.found
 
 -- ---- where reading stops
 

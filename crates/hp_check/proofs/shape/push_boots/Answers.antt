@@ -1,18 +1,12 @@
-use Rattle.std.proofs.Common.{is_some, ap, ◌∙◌}
-use Rattle.serde_json.specs.View.{view}
-use Rattle.serde_json.specs.declared.value.Value.{Value}
-use Rattle.hp_scenario.specs.Form.{boot_at}
-use Rattle.hp_check.proofs.Added.{of_test, test_added, tests_added}
+use Rattle.std.proofs.lemmas.List.{take_all}
+use Rattle.hp_check.proofs.Added.{test_added}
 use Rattle.hp_check.proofs.shape.push_boots.Goals as goal
 
 pub loop-index-preserved : goal.loop-index-preserved
 loop-index-preserved c =
-    test_added (λ (v : Value). is_some (boot_at (view v))) c.args.words.now c.loop-index.index
-    c.index-words-index.result c.loop-index-test.true c.loop-index.invariant
-    (of_test (c.is_some-is_boot.ensures ∙ ap is_some c.boot_at.ensures
-    ∙ ap (λ (v : Value). is_some (boot_at (view v))) c.index-words-index.is) c.in_ok-push_unless.ensures)
+    test_added _ _ _ c.index-words-index.result c.loop-index-test.true c.loop-index.invariant
+    (rw (← c.index-words-index.is, ← c.boot_at.ensures, ← c.is_some-is_boot.ensures)
+    c.in_ok-push_unless.ensures)
 
 pub returns : goal.returns
-returns c =
-    tests_added (λ (v : Value). is_some (boot_at (view v))) c.args.words.now c.loop-index.index
-    c.loop-index-test.false c.loop-index.invariant
+returns c = rw (take_all _ _ c.loop-index-test.false) at c.loop-index.invariant
