@@ -1,19 +1,20 @@
--- The calls that a search is done with, from turn to turn.
-use Rattle.std.proofs.Common.{◌≡◌, ℕ, ◌+◌, ◌<◌, List, [], ◌∷◌, ◌++◌, length, Some, None, ap, sym, subst, ◌∙◌, arith, inl, inr}
+-- The calls that a search is done with, from turn to turn, and the room for those of its schedule.
+use Rattle.std.proofs.Common.{◌≡◌, ℕ, ◌+◌, ◌<◌, List, [], ◌∷◌, ◌++◌, length, Some, None, ap, sym, subst, ◌∙◌, arith, inl, inr, false}
 use Rattle.std.proofs.lemmas.Bool.{cases_lt}
-use Rattle.std.proofs.lemmas.List.{append-nil, append_assoc, same_from_push}
+use Rattle.std.proofs.lemmas.List.{append-nil, append_assoc, same_from_push, length-append, length_push}
 use Rattle.std.proofs.lemmas.Option.{none-some}
 use Rattle.hp_units.specs.declared.replies.Record.{Record}
 use Rattle.hp_schedules.specs.Orders.{Extends}
 use Rattle.hp_schedules.specs.Schedules.{Setting, next_call, plays, record_of_call}
 use Rattle.hp_schedules.proofs.Plays.{asks_within, plays_push, stops}
-use Rattle.hp_states.specs.Rooms.{HasNoRoom}
-use Rattle.hp_states.proofs.Rooms.{push_extends}
+use Rattle.hp_states.specs.Rooms.{HasNoRoom, is_full_after}
+use Rattle.hp_states.proofs.Rooms.{push_extends, was_room}
 use Rattle.hp_explore.specs.Aims.{AimValue, IsDone, IsLawful, IsNarrower, MayBeSkipped}
 use Rattle.hp_explore.specs.Reaching.{HasRoomAlong}
 use Rattle.hp_explore.specs.Searches.{AreTriedTo, IsCallDone, IsTriedTo, number_at}
 use Rattle.hp_explore.proofs.Continued.{call_within}
 use Rattle.hp_explore.proofs.Rotations.{same_cpu}
+use Rattle.hp_explore.proofs.Orders.{extends_longer}
 
 -- ---- one call
 
@@ -119,10 +120,7 @@ tried_down g aim seed place cpu tried earlier before c on =
 pub tried_up : (g : Setting) (aim : AimValue) (seed : ℕ) (place : List ℕ) (cpu : ℕ)
     → AreTriedTo g aim seed (place ++ cpu ∷ []) → AreTriedTo g aim seed place
 tried_up g aim seed place cpu earlier before c on =
-    earlier before c (
-      on.0 ++ cpu ∷ [],
-      ap (λ (s : List ℕ). s ++ cpu ∷ []) on.1 ∙ append_assoc (before ++ c ∷ []) on.0 (cpu ∷ []),
-    )
+    earlier before c (extends_longer place (before ++ c ∷ []) cpu on)
 
 -- none before the first
 pub tried_none : (g : Setting) (aim : AimValue) (seed : ℕ) → AreTriedTo g aim seed []
@@ -140,3 +138,25 @@ tried_narrower g old new seed place count narrower tried = (
         λ whole. done.1 (narrower.whole whole),
       ),
 )
+
+-- ---- the room for the calls of a schedule
+
+-- no call has room
+pub room_none : (g : Setting) → HasRoomAlong g []
+room_none g fills = absurd (grind (arith, length-append, length_push, ap length fills.2.1))
+
+-- one call more
+pub room_push : (g : Setting) (p : List ℕ) (news : List Record) (cpu : ℕ) → HasRoomAlong g p
+    → plays g p ≡ Some news → is_full_after g news ≡ false → HasRoomAlong g (p ++ cpu ∷ [])
+room_push g p news cpu along played room fills =
+    elim (push_extends p (fills.0 ++ fills.1.cpu ∷ []) fills.2.0 cpu fills.2.1) [
+      | inl same ↦
+          was_room g p news fills.0 played room
+          (sym (same_from_push p fills.0 cpu fills.1.cpu same).0) fills.1
+      | inr on ↦ along (fills.0, fills.1, on)
+    ]
+
+-- one call less
+pub room_back : (g : Setting) (p : List ℕ) (cpu : ℕ) → HasRoomAlong g (p ++ cpu ∷ []) → HasRoomAlong g p
+room_back g p cpu along fills =
+    along (fills.0, fills.1, extends_longer p (fills.0 ++ fills.1.cpu ∷ []) cpu fills.2)

@@ -1,23 +1,28 @@
 -- The turns of a walk: what each does to what is known of the places.
-use Rattle.std.proofs.Common.{◌≡◌, ℕ, ◌+◌, ◌<◌, ◌≤◌, true, false, List, [], ◌∷◌, ◌++◌, length, option_to_list, reverse, Option, Some, None, ap, sym, ◌∙◌, arith}
-use Rattle.std.proofs.lemmas.List.{append-nil, length_push, map-append, reverse-append, same_from_push}
+use Rattle.std.proofs.Common.{◌≡◌, ℕ, ◌+◌, ◌<◌, ◌≤◌, true, false, List, [], ◌∷◌, ◌++◌, length, option_to_list, reverse, Option, Some, None, ap, sym, ◌∙◌, arith, Bool, refl, subst}
+use Rattle.std.proofs.lemmas.List.{append-nil, length_push, map-append, reverse-append, same_from_push, length-append}
 use Rattle.hp_units.specs.declared.events.Event.{Event}
 use Rattle.hp_units.specs.declared.replies.Record.{Record}
 use Rattle.hp_states.specs.Rooms.{is_full_after}
 use Rattle.hp_explore.specs.Frames.{AreBelow, AreWalked}
-use Rattle.hp_states.specs.Frames.{GoOn, IsFrame}
+use Rattle.hp_states.specs.Frames.{GoOn, IsFrame, IsArrival}
 use Rattle.hp_schedules.specs.Notes.{TallyValue}
 use Rattle.hp_schedules.specs.Parts.{IsOn, PartValue}
-use Rattle.hp_explore.specs.Paths.{IsBack, PathValue}
+use Rattle.hp_explore.specs.Paths.{IsBack, PathValue, IsForth}
 use Rattle.hp_schedules.specs.Schedules.{Setting, next_call, plays, record_of_call, schedule_of}
 use Rattle.hp_states.specs.Walks.{IsPartWalkedBefore, IsPartWalkedThrough}
 use Rattle.hp_states.specs.declared.frames.Level.{Level}
 use Rattle.hp_schedules.specs.declared.tally.Ending.{Ending}
 use Rattle.hp_states.proofs.OfPart.{comes_on}
 use Rattle.hp_states.proofs.Entered.{frame_goes_on}
-use Rattle.hp_states.proofs.Rooms.{done_begins, done_down, done_over, done_past}
-use Rattle.hp_states.proofs.Noting.{over_next}
+use Rattle.hp_states.proofs.Rooms.{done_down, done_past}
 use Rattle.hp_explore.proofs.Paths.{path_of}
+use Rattle.std.proofs.lemmas.Bool.{leb-false, or_parts}
+use Rattle.hp_memory.specs.Memory.{MemoryValue}
+use Rattle.hp_states.specs.Places.{memory_at}
+use Rattle.hp_schedules.specs.Cursors.{AreCursors}
+use Rattle.hp_schedules.specs.declared.cursors.Cursor.{Cursor}
+use Rattle.hp_states.specs.Seen.{IsMemo, IsOnWay, MemoValue}
 
 -- ---- as the walk goes on
 
@@ -26,21 +31,11 @@ pub below_goes_on : (g : Setting) (part : PartValue) (most start : ℕ) (old new
     → most ≤ start → GoOn start old new → AreBelow g part old most news frames
     → AreBelow g part new most news frames
 below_goes_on g part most start old new news [] le on b = b
-below_goes_on g part most start old new news (frame ∷ frames) le on b = (
-  b.0,
-  b.1,
-  b.2,
-  b.3,
-  b.4,
-  b.5,
-  b.6,
-  b.7,
-  b.8,
-  b.9,
-  frame_goes_on g part start old new b.0 frame (omega (arith, b.12, le)) on b.10,
-  below_goes_on g part frame.start start old new b.0 frames (omega (arith, b.12, le)) on b.11,
-  b.12,
-)
+below_goes_on g part most start old new news (frame ∷ frames) le on b =
+    let here = frame_goes_on g part start old new b.0 frame (omega (arith, b.12, le)) on b.10 in
+    let rest =
+    below_goes_on g part frame.start start old new b.0 frames (omega (arith, b.12, le)) on b.11 in
+    (b.0, b.1, b.2, b.3, b.4, b.5, b.6, b.7, b.8, b.9, here, rest, b.12)
 
 -- ---- a turn
 
@@ -48,22 +43,6 @@ below_goes_on g part most start old new news (frame ∷ frames) le on b = (
 pub longer_schedule : (news : List Record) (r : Record)
     → schedule_of (news ++ r ∷ []) ≡ schedule_of news ++ r.cpu ∷ []
 longer_schedule news r = map-append (λ (q : Record). q.cpu) news (r ∷ [])
-
--- a processor asks for nothing
-pub walk_passes : (g : Setting) (part : PartValue) (tally : TallyValue) (news : List Record) (frame : Level)
-    (frames : List Level)
-    → plays g (schedule_of news) ≡ Some news → next_call g frame.next news ≡ None
-    → frame.next < length g.scripts → AreWalked g part tally news (frame ∷ frames)
-    → AreWalked g part tally news (record frame { next = frame.next + 1 } ∷ frames)
-walk_passes g part tally news frame frames played none less w = (
-  record {
-    walked = done_over g part (schedule_of news) news frame.next tally.ends played none w.0.walked;
-    over = over_next g news frame.next frame.is_over none w.0.over;
-    within = omega arith;
-  },
-  record { comes = w.1.comes; within = w.1.within; reached = w.1.reached },
-  w.2,
-)
 
 -- a processor makes its call, and leads on to a place
 pub walk_leads : (g : Setting) (part : PartValue) (tally : TallyValue) (news later : List Record)
@@ -114,18 +93,6 @@ frames_popped old new popped frame is some = rw (is, some, reverse-append new (f
 pub no_frames : (old new : List Level) (popped : Option Level) → old ≡ new ++ option_to_list popped
     → popped ≡ None → reverse old ≡ reverse new
 no_frames old new popped is none = grind (arith, append-nil)
-
--- ---- the start
-
--- no call was made
-pub walk_begun : (p : PathValue) (part : PartValue) (ends : List Ending) → p.news ≡ [] → ends ≡ []
-    → IsPartWalkedBefore p.setting part (schedule_of p.news) ends
-walk_begun p part ends begun none = rw (begun, none) (done_begins p.setting part)
-
-pub on_begun : (p : PathValue) (part : PartValue) → p.news ≡ []
-    → IsOn (length p.setting.scripts) part (schedule_of p.news)
-on_begun p part begun more =
-    absurd (omega (arith, more, ap (λ (h : List Record). length (schedule_of h)) begun))
 
 -- ---- the way back
 
@@ -178,3 +145,63 @@ pub below_many : (g : Setting) (part : PartValue) (tally : TallyValue) (most : �
 below_many g part tally most news [] b = sym (ap length b)
 below_many g part tally most news (frame ∷ frames) b =
     omega (arith, below_many g part tally frame.start b.0 frames b.11, ap length b.3, length_push b.0 b.1)
+
+-- ---- by what the path did
+
+-- the history has room for another record
+pub room_after : (g : Setting) (news : List Record) → is_full_after g news ≡ false
+    → length (g.start ++ news) < g.layout.history
+room_after g news not_full = grind (arith, leb-false, or_parts)
+
+pub short_on : (p q : PathValue) (cpu : ℕ) → IsForth p cpu true q
+    → length q.news ≤ q.setting.layout.history
+short_on p q cpu forth = grind (arith, room_after, length-append, length_push)
+
+pub some_news : (p q : PathValue) (cpu : ℕ) → IsForth p cpu true q → 0 < length q.news
+some_news p q cpu forth = omega (arith, ap (λ (x : PathValue). length x.news) forth.3, length_push)
+
+-- the setting is the same
+pub forth_setting : (p q : PathValue) (cpu : ℕ) (went : Bool) → IsForth p cpu went q → q.setting ≡ p.setting
+forth_setting p q cpu true forth = ap (λ (x : PathValue). x.setting) forth.3
+forth_setting p q cpu false forth = ap (λ (x : PathValue). x.setting) forth.1
+
+-- a place is left
+pub gone_back : (g : Setting) (part : PartValue) (start : ℕ) (old new : TallyValue) (news : List Record)
+    (frames all : List Level) (cpu : Option ℕ) (q : PathValue) (memo : MemoValue) (n : ℕ)
+    → all ≡ frames → GoOn start old new → AreBelow g part old start news frames
+    → IsPartWalkedThrough g part (schedule_of news) new.ends
+    → IsBack (path_of g news) cpu q → IsMemo g new.ends memo → n ≡ length g.scripts
+    → length news ≤ g.layout.history
+    → AreWalked q.setting part new q.news all × IsMemo q.setting new.ends memo
+    × (n ≡ length q.setting.scripts) × (length q.news ≤ q.setting.layout.history)
+gone_back g part start old new news frames all cpu q memo n all_is on below walked back kept many short = (
+  rw (same, all_is) (walk_back g part start start old new news frames cpu (path_of g news) q (omega arith) on
+      below walked refl back),
+  rw same kept,
+  many ∙ ap (λ (h : Setting). length h.scripts) (sym same),
+  rw same (omega (arith, back_shorter g news cpu (path_of g news) q refl back, short)),
+)
+  where
+    same : q.setting ≡ g
+    same = back_setting g news cpu (path_of g news) q refl back
+
+-- ---- a place that the walk comes to, and leaves
+
+-- as the path shows it
+pub arrival : (p : PathValue) (part : PartValue) (records : List Record) (memory : MemoryValue)
+    (cursors : List Cursor) (ends : List Ending) (memo : MemoValue)
+    → records ≡ p.news → memory ≡ memory_at p.setting p.news → AreCursors p.setting p.news cursors
+    → plays p.setting (schedule_of p.news) ≡ Some p.news
+    → IsPartWalkedBefore p.setting part (schedule_of p.news) ends
+    → IsOn (length p.setting.scripts) part (schedule_of p.news) → IsMemo p.setting ends memo
+    → IsOnWay p.setting p.news memo → IsArrival p.setting part records memory cursors ends memo
+arrival p part records memory cursors ends memo is memory_is at played walked on kept way =
+    subst (λ (h : List Record). IsArrival p.setting part h memory cursors ends memo) (sym is) (record {
+      stood = record {
+        place = record { played = played; memory_is = memory_is; cursors_are = at };
+        memo_is = kept;
+        way = way;
+      };
+      walked = walked;
+      on = on;
+    })

@@ -1,5 +1,5 @@
 -- The causes of faults of a part's search; and the search of the only part of one.
-use Rattle.std.proofs.Common.{◌≡◌, ℕ, ◌≤◌, List, [], ◌∷◌, ◌++◌, Some, length, refl, sym, inr}
+use Rattle.std.proofs.Common.{◌≡◌, ℕ, ◌≤◌, List, [], ◌∷◌, ◌++◌, Some, length, refl, inr}
 use Rattle.std.specs.Prelude.{sum_by}
 use Rattle.hp_schedules.specs.Ends.{AreCounted}
 use Rattle.hp_explore.specs.Faults.{FillsHistory, FillsPart, IsCause, IsCauseHere, IsCausePart, IsCausePartWithin, IsCauseWithin}
@@ -34,11 +34,6 @@ cause_within g part news cpu ends limit HistoryFull played comes walked within f
       (sum_by (λ (e : Ending). e.count) ends) limit within walked.counted.total;
 }
 cause_within g part news cpu ends limit OutOfMemory played comes walked within any = tt
-
--- by a setting, a part and a limit that are the same
-pub cause_here : (g h : Setting) (part own : PartValue) (limit most : ℕ) (fault : ExploreFault) → g ≡ h
-    → part ≡ own → limit ≡ most → IsCausePartWithin g part limit fault → IsCausePartWithin h own most fault
-cause_here g h part own limit most fault same this most_is cause = rw (sym same, sym this, sym most_is) cause
 
 -- it is one of the part's search, whatever the limit
 pub cause_part : (g : Setting) (part : PartValue) (limit : ℕ) (fault : ExploreFault)

@@ -1,11 +1,11 @@
 -- The ends of all parts together are those of all complete schedules.
-use Rattle.std.proofs.Common.{◌≡◌, ℕ, suc, ◌+◌, ◌*◌, ◌%◌, ◌<◌, ◌≤◌, List, [], ◌∷◌, length, take, Some, slice_get, refl, ap, arith, inl, inr}
-use Rattle.std.specs.Prelude.{◌⊎◌, fold}
+use Rattle.std.proofs.Common.{◌≡◌, ℕ, suc, ◌+◌, ◌*◌, ◌%◌, ◌<◌, ◌≤◌, List, [], ◌∷◌, length, take, Some, slice_get, refl, ap, arith, inl, inr, map, get_or, Option, None, sym, ◌∙◌}
+use Rattle.std.specs.Prelude.{◌⊎◌, fold, IfSome, option_map}
 use Rattle.std.specs.Cmp.Lexicographic.{slice_cmp, nat_list_cmp_total}
 use Rattle.std.specs.Ordering.{is_lt, nat_cmp}
 use Rattle.std.proofs.lemmas.Bool.{cases_lt}
 use Rattle.std.proofs.lemmas.List.Sorted.{ranks_by, sorted_far}
-use Rattle.std.proofs.lemmas.Option.{get_or_from_slice_get, slice_get_within}
+use Rattle.std.proofs.lemmas.Option.{get_or_from_slice_get, slice_get_within, same_Some, slice_get-map}
 use Rattle.hp_schedules.specs.declared.tally.Ending.{Ending}
 use Rattle.hp_schedules.specs.Ends.{AreCounted, AreInOrder}
 use Rattle.hp_schedules.specs.Orders.{IsBefore}
@@ -14,11 +14,13 @@ use Rattle.hp_schedules.specs.Parts.{EndsInPart, part_number}
 use Rattle.hp_schedules.specs.Schedules.{EndsWith, Setting}
 use Rattle.hp_schedules.proofs.Counts.{none_counted, same_counted}
 use Rattle.hp_explore.specs.Adding.{AddsEnds, AddsLists, AreSorted}
-use Rattle.hp_explore.specs.Sums.{AreParts}
-use Rattle.hp_explore.proofs.Complete.{compared}
-use Rattle.hp_explore.proofs.Orders.{before_less}
+use Rattle.hp_explore.specs.Sums.{AreParts, HaveRoom, part}
+use Rattle.hp_explore.proofs.Orders.{before_less, compared}
 use Rattle.hp_explore.proofs.Joining.{joined}
 use Rattle.hp_explore.proofs.Moved.{counted_moved}
+use Rattle.std.proofs.lemmas.List.{length-map}
+use Rattle.hp_laws.proofs.Lists.{get_some}
+use Rattle.hp_explore.specs.Faults.{FillsHistory, FillsPart}
 
 -- ---- each schedule is of one part
 
@@ -38,10 +40,6 @@ number_below processors of s some = number_from processors of 0 s some
 abbrev pub EndsBelow : Setting → (of calls below : ℕ) → List ℕ → OutcomeValue → Type 0
 EndsBelow g of calls below s x =
     EndsWith g s x × (part_number (length g.scripts) of (take calls s) < below)
-
--- no schedule is of a part below the first
-pub none_below : (g : Setting) (of calls : ℕ) → AreCounted (EndsBelow g of calls 0) []
-none_below g of calls = none_counted (EndsBelow g of calls 0) (λ s x h. let below = h.1 in omega arith)
 
 -- those of one part more
 pub part_added : (g : Setting) (of calls k : ℕ) (old ends new : List Ending)
@@ -107,7 +105,7 @@ all_added g calls lists new some parts adds =
     let none : 0 + length lists ≡ length lists = omega arith in
     all_below g (length lists) calls new some (rw none at (lists_added g (length lists) calls 0 lists [] new
     (λ j ends h. let e : 0 + j ≡ j = omega arith in rw e (parts j ends h))
-    (none_below g (length lists) calls) adds))
+    (none_counted (EndsBelow g (length lists) calls 0) (λ s x h. let below = h.1 in omega arith)) adds))
 
 -- ---- their order
 
@@ -133,3 +131,64 @@ sorted_in_order g old new moved ok i j e f less h k =
 pub all_sorted : (g : Setting) (old new : List Ending) → AreSorted old new → AreCounted (EndsWith g) old
     → AreCounted (EndsWith g) new
 all_sorted g old new moved ok = counted_moved (EndsWith g) old new moved.moved ok
+
+-- ---- what a search of each part found
+
+-- where the history has room for each call of each part, it has room for all
+pub room_for_all : (g : Setting) (of calls : ℕ) → 0 < of → HaveRoom g of calls → FillsHistory g → ⊥
+room_for_all g of calls some room fills =
+    let first = take calls fills.0 in
+    room (part_number (length g.scripts) of first) (number_below (length g.scripts) of first some)
+    (fills.0, fills.1, inr refl)
+
+-- at the place of a list what was found is that list
+found_at : {V : Type 0} (found : List (Option V)) (lists : List V) → found ≡ map (λ v. Some v) lists → (k : ℕ)
+    (v : V) → slice_get lists k ≡ Some v → get_or found k None ≡ Some v
+found_at {V} found lists is k v h =
+    ap (λ (os : List (Option V)). get_or os k None) is
+    ∙ get_or_from_slice_get (map (λ (w : V). Some w) lists) k (Some v) None
+    (slice_get-map (λ (w : V). Some w) lists k ∙ ap (option_map (λ (w : V). Some w)) h)
+
+-- there is a list at each place
+list_at : {V : Type 0} (found : List (Option V)) (lists : List V) (of k : ℕ) → found ≡ map (λ v. Some v) lists
+    → length found ≡ of → k < of → (v : V) × (get_or found k None ≡ Some v)
+list_at {V} found lists of k is many less =
+    let at = get_some lists k (omega (arith, less, many, long, length-map lists (λ (w : V). Some w))) in
+    (at.0, found_at found lists is k at.0 at.1)
+  where
+    long : length found ≡ length (map (λ (w : V). Some w) lists)
+    long = ap (λ (os : List (Option V)). length os) is
+
+-- the history has room for the calls of each part
+pub room_found : {V : Type 0} (g : Setting) (of calls : ℕ) (found : List (Option V)) (lists : List V)
+    → found ≡ map (λ v. Some v) lists → length found ≡ of
+    → ((k : ℕ) → k < of → IfSome (get_or found k None) (λ _. FillsPart g (part of calls k) → ⊥))
+    → HaveRoom g of calls
+room_found {V} g of calls found lists is many each k less =
+    let at = list_at found lists of k is many less in
+    rw at.1 at (each k less)
+
+-- the ends of each part are the list at its place
+pub parts_found : {V : Type 0} (items : V → List Ending) (g : Setting) (of calls : ℕ)
+    (found : List (Option V)) (lists : List V) → found ≡ map (λ v. Some v) lists → length found ≡ of
+    → ((k : ℕ) → k < of → IfSome (get_or found k None)
+    (λ v. AreCounted (EndsInPart g (part of calls k)) (items v)))
+    → AreParts g calls (map items lists)
+parts_found {V} items g of calls found lists is many each k ends h =
+    let at = read (slice_get lists k) (sym (slice_get-map items lists k) ∙ h) in
+    rw (long, ← at.1) (rw (found_at found lists is k at.0 at.2) at (each k (within at.0 at.2)))
+  where
+    long : length (map items lists) ≡ of
+    long =
+        length-map lists items
+        ∙ (sym (length-map lists (λ (v : V). Some v))
+        ∙ (sym (ap (λ (os : List (Option V)). length os) is) ∙ many))
+
+    read : (o : Option V) → option_map items o ≡ Some ends → (v : V) × (items v ≡ ends) × (o ≡ Some v)
+    read None e = absurd cc
+    read (Some v) e = (v, same_Some (items v) ends e, refl)
+
+    within : (v : V) → slice_get lists k ≡ Some v → k < of
+    within v there =
+        let less = slice_get_within lists k v there in
+        omega (arith, less, long, length-map lists items)

@@ -1,14 +1,16 @@
--- The keys of the places on a walk's path, as it goes on and back.
-use Rattle.std.proofs.Common.{◌≡◌, ℕ, ◌+◌, ◌≤◌, List, [], ◌∷◌, ◌++◌, length, Option, None, Some, get_or, take, ap, sym, subst, ◌∙◌, arith, inl, inr}
+-- The keys of the places on a walk's path, as it goes on and back, and of those that are done.
+use Rattle.std.proofs.Common.{◌≡◌, ℕ, ◌+◌, ◌≤◌, List, [], ◌∷◌, ◌++◌, length, Option, None, Some, get_or, take, ap, sym, subst, ◌∙◌, arith, inl, inr, Bool, true, false, slice_get}
 use Rattle.std.proofs.lemmas.Bool.{cases_eq}
 use Rattle.std.proofs.lemmas.List.{length_push, take-append-le, take_all}
 use Rattle.std.proofs.lemmas.Option.{none-some, same_Some}
 use Rattle.hp_units.specs.declared.replies.Record.{Record}
-use Rattle.hp_schedules.specs.Schedules.{Setting, plays, schedule_of}
-use Rattle.hp_explore.specs.Aims.{AimValue, IsDone}
-use Rattle.hp_explore.specs.DonePlaces.{IsDoneKey}
+use Rattle.hp_schedules.specs.Schedules.{Setting}
+use Rattle.hp_explore.specs.Aims.{AimValue}
+use Rattle.hp_explore.specs.DonePlaces.{IsDoneKey, AreDoneKeys}
 use Rattle.hp_explore.specs.PathKeys.{ArePathKeys}
 use Rattle.hp_explore.specs.Visited.{IsPlaceKey, no_stops}
+use Rattle.hp_laws.proofs.Lists.{get_push_cases}
+use Rattle.hp_states.specs.Codes.{IsFoundOrAdded}
 
 -- none is kept
 pub keys_none : (g : Setting) (aim : AimValue) (news : List Record) (keys : List (Option (List ℕ)))
@@ -30,11 +32,8 @@ keys_shorter g aim news r calls old new here none others are at key kept = elim 
     before : (at ≡ calls → ⊥) → (at ≤ length news) × IsPlaceKey g aim no_stops (take at news) key
     before other =
         let was = are at key (sym (others at other) ∙ kept) in
-        let low : at ≤ length news = omega (arith, was.0, length_push news r, here, other) in (
-          low,
-          subst (λ (h : List Record). IsPlaceKey g aim no_stops h key)
-              (take-append-le at news (r ∷ []) low) was.1,
-        )
+        let low : at ≤ length news = omega (arith, was.0, length_push news r, here, other) in
+        (low, rw (take-append-le at news (r ∷ []) low) at was.1)
 
 -- a key is kept for the place at which the walk is
 pub key_here : (g : Setting) (aim : AimValue) (news : List Record) (calls : ℕ) (key : List ℕ)
@@ -45,26 +44,23 @@ pub key_here : (g : Setting) (aim : AimValue) (news : List Record) (calls : ℕ)
 key_here g aim news calls key old new here kept others is are at k there = elim (cases_eq at calls) [
   | inl same ↦ (
     omega (arith, same, here),
-    subst (λ (h : List Record). IsPlaceKey g aim no_stops h k)
-        (sym (take_all at news (omega (arith, same, here))))
-        (subst (IsPlaceKey g aim no_stops news)
-        (same_Some key k (sym kept ∙ (ap (λ (i : ℕ). get_or new i None) (sym same) ∙ there))) is),
+    rw (
+      take_all at news (omega (arith, same, here)),
+      ← same_Some key k (sym kept ∙ (ap (λ (i : ℕ). get_or new i None) (sym same) ∙ there)),
+    ) is,
   )
   | inr other ↦ are at k (sym (others at other) ∙ there)
 ]
 
--- the place at which the walk is is done
-pub key_done : (g : Setting) (aim : AimValue) (news : List Record) (calls : ℕ) (key : List ℕ)
-    (keys : List (Option (List ℕ)))
-    → calls ≡ length news → plays g (schedule_of news) ≡ Some news → aim.admits (schedule_of news)
-    → IsDone g aim (schedule_of news) → ArePathKeys g aim news keys → get_or keys calls None ≡ Some key
-    → IsDoneKey g aim key
-key_done g aim news calls key keys here played admitted done are kept = record {
-  news = news;
-  played = played;
-  admitted = admitted;
-  key_is =
-      subst (λ (h : List Record). IsPlaceKey g aim no_stops h key)
-      (take_all calls news (omega (arith, here))) (are calls key kept).1;
-  done = done;
-}
+-- ---- places that are done
+
+pub done_added : (g : Setting) (aim : AimValue) (old new : List (List ℕ)) (key : List ℕ) (found : Bool)
+    → AreDoneKeys g aim old → IsDoneKey g aim key → IsFoundOrAdded old new key found
+    → AreDoneKeys g aim new
+done_added g aim old new key true are done is = subst (AreDoneKeys g aim) (sym is.0) are
+done_added g aim old new key false are done is =
+    λ i k here.
+    elim (get_push_cases old key k i (ap (λ (ks : List (List ℕ)). slice_get ks i) (sym is) ∙ here)) [
+      | inl was ↦ are i k was
+      | inr last ↦ subst (IsDoneKey g aim) last.1 done
+    ]

@@ -1,92 +1,28 @@
 -- Places with one key go on alike, so what is done from the one is done from the other.
-use Rattle.std.proofs.Common.{◌≡◌, ℕ, ◌+◌, List, [], ◌∷◌, ◌++◌, length, Option, None, Some, refl, ap, sym, subst, ◌∙◌, arith}
+use Rattle.std.proofs.Common.{◌≡◌, ℕ, List, ◌∷◌, ◌++◌, length, Option, None, Some, refl, ap, sym, ◌∙◌, arith}
 use Rattle.std.specs.Prelude.{option_map}
 use Rattle.std.proofs.lemmas.Option.{none-some}
-use Rattle.std.proofs.lemmas.List.{append_assoc}
-use Rattle.hp_units.specs.Placement.{IsShaped}
 use Rattle.hp_units.specs.declared.replies.Record.{Record}
-use Rattle.hp_memory.specs.Memory.{MemoryValue}
-use Rattle.hp_laws.specs.Renumbered.{renumbered}
 use Rattle.hp_schedules.specs.Alike.{AreMergeable}
 use Rattle.hp_units.specs.declared.events.Event.{Event}
 use Rattle.hp_laws.proofs.Numbered.{differ}
 use Rattle.hp_schedules.specs.Continuing.{ContinueAlike, ContinuesAs, anonymous}
-use Rattle.hp_schedules.specs.Cursors.{AreCursors, IsSteered}
-use Rattle.hp_schedules.specs.declared.cursors.Cursor.{Cursor}
-use Rattle.hp_schedules.specs.declared.scripts.Step.{Step}
 use Rattle.hp_schedules.specs.Schedules.{Setting, next_call, plays, schedule_of}
 use Rattle.hp_schedules.specs.Scripts.{greatest_named}
 use Rattle.hp_schedules.proofs.Continuing.{continues_as}
 use Rattle.hp_schedules.proofs.SameCalls.{all_calls}
 use Rattle.hp_schedules.proofs.Steering.{steered_same}
-use Rattle.hp_states.specs.Codes.{place_code}
-use Rattle.hp_states.specs.Places.{memory_at}
 use Rattle.hp_states.specs.Rooms.{HasNoRoom}
-use Rattle.hp_states.specs.Numbered.{IsNumbered}
-use Rattle.hp_states.specs.Stops.{AreStopsAt, StopsValue}
+use Rattle.hp_states.specs.Stops.{StopsValue}
 use Rattle.hp_states.proofs.Coded.{places_apart}
 use Rattle.hp_states.proofs.StopNumbers.{openings_join}
-use Rattle.hp_explore.specs.Aims.{AimValue, AreSteered, IsDone, IsLawful}
+use Rattle.hp_explore.specs.Aims.{AimValue, IsDone, IsLawful}
 use Rattle.hp_explore.specs.SteeredBelow.{steered_apart, steered_at}
 use Rattle.hp_explore.specs.LatestOps.{numbering, ops_at}
-use Rattle.hp_explore.specs.Visited.{ArePlaceNumbers, IsPlaceKey, IsWritten, numbered_state}
+use Rattle.hp_explore.specs.Visited.{IsPlaceKey, numbered_state}
 use Rattle.hp_explore.proofs.LatestNumbers.{later_number, scripts_named}
 
 -- ---- parts of keys
-
--- one processor's numbers more
-pub steered_more : (p : ℕ → ℕ) (scripts : List (List Step)) (news : List Record) (cursors : List Cursor)
-    (cpu : ℕ) (old mid new : List ℕ)
-    → ((part : List ℕ) × (mid ≡ old ++ part)
-    × ((g : Setting) → g.scripts ≡ scripts → AreCursors g news cursors → AreSteered p g cpu news part))
-    → ((part : List ℕ) × (new ≡ mid ++ part)
-    × ((g : Setting) → g.scripts ≡ scripts → AreCursors g news cursors → IsSteered p g cpu news part))
-    → (part : List ℕ) × (new ≡ old ++ part)
-    × ((g : Setting) → g.scripts ≡ scripts → AreCursors g news cursors → AreSteered p g (cpu + 1) news part)
-steered_more p scripts news cursors cpu old mid new so_far more = grind (arith, append_assoc)
-
--- the numbers are written part by part
-pub numbers_made : (g : Setting) (aim : AimValue) (stops : StopsValue) (news given : List Record)
-    (scripts : List (List Step)) (cursors : List Cursor) (processors : ℕ) (numbers : ℕ → ℕ)
-    (none first second all : List ℕ)
-    → none ≡ [] → processors ≡ length g.scripts → scripts ≡ g.scripts → given ≡ news
-    → numbers ≡ numbering g news → AreCursors g news cursors → AreStopsAt (numbering g) g news stops
-    → ((openings : ℕ) × (first ≡ none ++ openings ∷ [])
-    × ((at : List Record → ℕ → ℕ) (g : Setting) (news : List Record) → AreStopsAt at g news stops
-    → IsNumbered (at news) g stops.codes stops.lists news (Some openings)))
-    → ((part : List ℕ) × (second ≡ first ++ part)
-    × ((g : Setting) → g.scripts ≡ scripts → AreCursors g given cursors
-    → AreSteered numbers g processors given part))
-    → ((part : List ℕ) × (all ≡ second ++ part) × aim.marks news part)
-    → ArePlaceNumbers g aim stops news all
-numbers_made g aim stops news given scripts cursors processors numbers none first second all empty many are
-    told numbered at stands written steering marks = record {
-      openings = written.0;
-      steering = steering.0;
-      marks = marks.0;
-      numbers_are = rw (marks.1, steering.1, written.1, empty);
-      numbered = written.2 (numbering g) g news stands;
-      steered = rw (← numbered, ← many, ← told) (steering.2 g (sym are) (rw told at));
-      marked = marks.2;
-    }
-
--- the key was written, with the numbers and the state
-pub key_written : (g : Setting) (aim : AimValue) (stops : StopsValue) (news : List Record)
-    (numbers given key : List ℕ) (p : ℕ → ℕ) (m : MemoryValue)
-    → given ≡ numbers → key ≡ place_code m.layout given (renumbered p m.state)
-    → IsShaped m.layout (renumbered p m.state) → p ≡ numbering g news → m ≡ memory_at g news
-    → ArePlaceNumbers g aim stops news numbers → IsWritten g aim stops news numbers key
-key_written g aim stops news numbers given key p m same is shaped numbered here are = (
-  record {
-    numbers = numbers;
-    are = are;
-    key_is = rw (is, same, numbered, here);
-    shaped =
-        subst (λ (v : MemoryValue). IsShaped v.layout (renumbered (numbering g news) v.state)) here
-        (subst (λ (q : ℕ → ℕ). IsShaped m.layout (renumbered q m.state)) numbered shaped);
-  },
-  refl,
-)
 
 -- the parts of two keys that are one
 pub key_parts : (g : Setting) (aim : AimValue) (stops : StopsValue) (h k : List Record)

@@ -1,8 +1,7 @@
 -- Which places of a search are ends as wanted.
-use Rattle.std.proofs.Common.{◌≡◌, ℕ, Bool, List, [], length, Some, None, refl, ap, sym, subst, ◌∙◌}
+use Rattle.std.proofs.Common.{◌≡◌, ℕ, Bool, List, [], length, Some, None, refl, sym, subst}
 use Rattle.std.specs.Prelude.{◌↔◌, IsTrue}
 use Rattle.std.proofs.lemmas.List.{append-nil}
-use Rattle.std.proofs.lemmas.Option.{same_Some}
 use Rattle.hp_units.specs.declared.replies.Record.{Record}
 use Rattle.hp_explore.specs.Paths.{IsOver, PathValue, state_at}
 use Rattle.hp_schedules.specs.Outcomes.{OutcomeValue, outcome}
@@ -14,24 +13,7 @@ use Rattle.hp_questions.specs.declared.wanted.Wanted.{Wanted}
 
 -- ---- the end of a place
 
--- a place where some script asks is no such end
-pub no_end : (g : Setting) (wanted : List Wanted) (news : List Record)
-    → plays g (schedule_of news) ≡ Some news → (((cpu : ℕ) → next_call g cpu news ≡ None) → ⊥)
-    → Reaches g wanted (schedule_of news) → ⊥
-no_end g wanted news played asks reaches =
-    asks (subst (λ (h : List Record). (cpu : ℕ) → next_call g cpu h ≡ None)
-    (same reaches.1.news reaches.1.played) reaches.1.over)
-  where
-    same : (h : List Record) → plays g (schedule_of news) ≡ Some h → h ≡ news
-    same h is = same_Some h news (sym is ∙ played)
-
 -- where all are over it is one just where its outcome has the lines
-an_end : (g : Setting) (wanted : List Wanted) (news : List Record)
-    → plays g (schedule_of news) ≡ Some news → ((cpu : ℕ) → next_call g cpu news ≡ None)
-    → Meets g.layout.cpus g.scripts wanted (outcome_after g news) → Reaches g wanted (schedule_of news)
-an_end g wanted news played over meets =
-    (outcome_after g news, record { news = news; played = played; over = over; ends = refl }, meets)
-
 end_meets : (g : Setting) (wanted : List Wanted) (news : List Record)
     → plays g (schedule_of news) ≡ Some news → ((cpu : ℕ) → next_call g cpu news ≡ None)
     → Reaches g wanted (schedule_of news) → Meets g.layout.cpus g.scripts wanted (outcome_after g news)
@@ -40,25 +22,20 @@ end_meets g wanted news played over reaches =
     (only_this g (schedule_of news) news (schedule_of news) reaches.0 played over
     ([], sym (append-nil (schedule_of news))) reaches.1).1 reaches.2
 
--- the outcome at a place
-outcome_here : (p : PathValue) (processors : ℕ) (x : OutcomeValue)
-    → x ≡ outcome processors p.news p.setting.layout (state_at p) → processors ≡ length p.setting.scripts
-    → x ≡ outcome_after p.setting p.news
-unfolding outcome_after
-outcome_here p processors x is all =
-    is ∙ ap (λ (n : ℕ). outcome n p.news p.setting.layout (state_at p)) all
-
 -- so a test of the outcome tells whether it is one
 pub end_told : (p : PathValue) (wanted : List Wanted) (processors : ℕ) (x : OutcomeValue) (told : Bool)
     → plays p.setting (schedule_of p.news) ≡ Some p.news → IsOver p → processors ≡ length p.setting.scripts
     → x ≡ outcome processors p.news p.setting.layout (state_at p)
     → (IsTrue told ↔ Meets p.setting.layout.cpus p.setting.scripts wanted x)
     → IsTrue told ↔ Reaches p.setting wanted (schedule_of p.news)
+unfolding outcome_after
 end_told p wanted processors x told played over all is met =
-    let here : x ≡ outcome_after p.setting p.news = outcome_here p processors x is all in (
-      λ yes. an_end p.setting wanted p.news played over
-          (subst (Meets p.setting.layout.cpus p.setting.scripts wanted) here (met.0 yes)),
-      λ reaches. met.1
-          (subst (Meets p.setting.layout.cpus p.setting.scripts wanted) (sym here)
-          (end_meets p.setting wanted p.news played over reaches)),
+    let here : x ≡ outcome_after p.setting p.news = rw (is, all) in
+    let meets = Meets p.setting.layout.cpus p.setting.scripts wanted in (
+      λ yes. (
+        outcome_after p.setting p.news,
+        record { news = p.news; played = played; over = over; ends = refl },
+        subst meets here (met.0 yes),
+      ),
+      λ reaches. met.1 (subst meets (sym here) (end_meets p.setting wanted p.news played over reaches)),
     )

@@ -11,22 +11,19 @@ use Rattle.hp_schedules.specs.declared.cursors.Cursor.{Cursor}
 use Rattle.hp_schedules.proofs.Plays.{caller}
 use Rattle.hp_schedules.proofs.SameCalls.{call_leaves, event_kept}
 use Rattle.hp_states.specs.Stops.{KeepStops}
-use Rattle.hp_explore.specs.Aims.{AimValue, IsLawful, IsNarrower, MayBeSkipped}
+use Rattle.hp_explore.specs.Aims.{AimValue, IsLawful, IsNarrower}
 use Rattle.hp_explore.specs.LookedUp.{IsLookedUp}
 use Rattle.hp_explore.specs.Paths.{IsForth, PathValue}
-use Rattle.hp_explore.specs.Reaching.{HasRoomAlong}
-use Rattle.hp_explore.specs.Searches.{AreTriedTo, IsArriving, IsBegun, IsCallDone, IsLeaving, IsOn, IsPlaced, IsTriedTo, IsTrying, cpu_at, number_at, numbers_from, room_of, turns_at, turns_left}
-use Rattle.hp_explore.specs.Visited.{AreFollowed, AreVisited}
+use Rattle.hp_explore.specs.Searches.{IsArriving, IsBegun, IsCallDone, IsLeaving, IsOn, IsPlaced, IsTriedTo, IsTrying, cpu_at, number_at, numbers_from, room_of, turns_at}
+use Rattle.hp_explore.specs.Visited.{AreFollowed, AreVisited, no_stops}
 use Rattle.hp_explore.specs.declared.searching.Search.{Search}
 use Rattle.hp_explore.specs.declared.visited.Visited.{Visited}
-use Rattle.hp_explore.proofs.CallsDone.{tried_down, tried_narrower, tried_next, tried_none}
-use Rattle.hp_explore.proofs.FindRooms.{room_none, room_push}
-use Rattle.hp_explore.proofs.FindTurns.{left_down, left_past}
-use Rattle.hp_explore.proofs.Framing.{longer_schedule}
-use Rattle.hp_explore.proofs.LookedUps.{told_is_done}
+use Rattle.hp_explore.proofs.CallsDone.{room_none, room_push, tried_down, tried_narrower, tried_next, tried_none}
+use Rattle.hp_explore.proofs.Weights.{left_down, left_past}
+use Rattle.hp_explore.proofs.Framing.{longer_schedule, room_after}
 use Rattle.hp_explore.proofs.Rotations.{tried_there}
-use Rattle.hp_explore.proofs.Visits.{known_done, stops_kept, visited_longer, visited_more, visited_narrower, visited_none}
-use Rattle.hp_explore.proofs.Walked.{room_after}
+use Rattle.hp_explore.proofs.Visits.{known_done, stops_kept, visited_longer, visited_narrower, visited_none}
+use Rattle.hp_explore.proofs.PlaceKeys.{done_alike}
 
 -- ---- the start
 
@@ -117,12 +114,9 @@ pub comes : (p q : PathValue) (aim : AimValue) (seed next cpu : ℕ) (latest : R
 comes p q aim seed next cpu latest cursors old new played at here forth tried last there on keys keep way =
     subst (λ (x : PathValue). IsArriving aim seed x new) (sym forth.3) (record {
       placed = record {
-        along =
-            subst (HasRoomAlong p.setting) (sym led)
-            (room_push p.setting (schedule_of p.news) p.news cpu here.placed.along played forth.2);
+        along = rw led (room_push p.setting _ p.news cpu here.placed.along played forth.2);
         earlier =
-            subst (AreTriedTo p.setting aim seed) (sym led)
-            (tried_down p.setting aim seed (schedule_of p.news) cpu
+            rw led (tried_down p.setting aim seed (schedule_of p.news) cpu
             (subst (IsTriedTo p.setting aim seed (schedule_of p.news)) (sym at.1) here.tried)
             here.placed.earlier);
         way =
@@ -151,7 +145,7 @@ comes p q aim seed next cpu latest cursors old new played at here forth tried la
 -- ---- the place that it leads to
 
 -- the visited places lead here
-visited_here : (aim : AimValue) (seed : ℕ) (p : PathValue) (v w : Visited)
+pub visited_here : (aim : AimValue) (seed : ℕ) (p : PathValue) (v w : Visited)
     → (here : IsArriving aim seed p v) → AreVisited p.setting aim here.call.before w
     → AreVisited p.setting aim (schedule_of p.news) w
 visited_here aim seed p v w here visited =
@@ -159,22 +153,13 @@ visited_here aim seed p v w here visited =
     (visited_longer p.setting aim here.call.before here.call.cpu w visited)
 
 -- they have more numbers
-moved : (aim : AimValue) (seed : ℕ) (p : PathValue) (old new : Visited) → IsPlaced aim seed p old
+pub moved : (aim : AimValue) (seed : ℕ) (p : PathValue) (old new : Visited) → IsPlaced aim seed p old
     → KeepStops old.stops new.stops → AreFollowed p.setting p.news new → IsPlaced aim seed p new
 moved aim seed p old new placed keep way = record {
   along = placed.along;
   earlier = placed.earlier;
   way = way;
   base = λ n ns was. keep.lists n ns (placed.base n ns was);
-}
-
--- the aim does not admit it
-pub not_admitted : (aim : AimValue) (seed : ℕ) (p : PathValue) (v : Visited) → IsArriving aim seed p v
-    → MayBeSkipped aim (schedule_of p.news) → IsLeaving aim seed p v
-not_admitted aim seed p v here skipped = record {
-  placed = here.placed;
-  visited = visited_here aim seed p v v here here.visited;
-  done = (skipped.0, λ whole. absurd (skipped.1 whole));
 }
 
 -- it is known, so it is done
@@ -190,28 +175,14 @@ known_here aim seed p old new true lawful played here admitted on keep way found
   done = elim found.2 [
     | inl known ↦ known_done p.setting aim here.call.before here.call.cpu p.news new lawful played
         here.call.longer admitted visited known
-    | inr told ↦ told_is_done p.setting aim p.news told.0 lawful (here.visited.mergeable found.0) played
-        admitted told.1.0 told.1.1
+    | inr told ↦ done_alike p.setting aim no_stops told.1.0.news p.news told.0 lawful
+        (here.visited.mergeable found.0) told.1.0.played played told.1.0.admitted admitted told.1.0.key_is
+        told.1.1 told.1.0.done
   ];
 }
   where
     visited : AreVisited p.setting aim here.call.before new
     visited = stops_kept p.setting aim here.call.before old new on found.1 keep here.visited
-
--- it is not known, so it is tried from its first call on
-pub opened : (aim : AimValue) (seed : ℕ) (p : PathValue) (old new : Visited) (known : Bool)
-    → plays p.setting (schedule_of p.news) ≡ Some p.news
-    → IsArriving aim seed p old → aim.admits (schedule_of p.news)
-    → new.is_on ≡ old.is_on → KeepStops old.stops new.stops → AreFollowed p.setting p.news new
-    → IsLookedUp p.setting aim p.news old new known → known ≡ false → IsTrying aim seed p 0 new
-opened aim seed p old new true played here admitted on keep way kept told = absurd cc
-opened aim seed p old new false played here admitted on keep way kept told = record {
-  placed = moved aim seed p old new here.placed keep way;
-  tried = (admitted, λ cpu within less. absurd (omega (arith, less)));
-  visited =
-      visited_more p.setting aim (schedule_of p.news) p.news old new played refl admitted on keep kept
-      (visited_here aim seed p old old here here.visited);
-}
 
 -- ---- the number of steps left
 
@@ -221,21 +192,17 @@ pub numbers_longer : (n seed depth : ℕ) (schedule : List ℕ) (cpu : ℕ)
 numbers_longer n seed depth [] cpu =
     ap (λ (d : ℕ). number_at n seed d cpu ∷ []) (let same : depth ≡ depth + 0 = omega arith in same)
 numbers_longer n seed depth (c ∷ schedule) cpu =
-    ap (λ (numbers : List ℕ). number_at n seed depth c ∷ numbers)
-    (numbers_longer n seed (depth + 1) schedule cpu
-    ∙ ap (λ (d : ℕ). numbers_from n seed (depth + 1) schedule ++ number_at n seed d cpu ∷ [])
-    (let same : (depth + 1) + length schedule ≡ depth + suc (length schedule) = omega arith in same))
+    let same : (depth + 1) + length schedule ≡ depth + suc (length schedule) = omega arith in
+    rw (numbers_longer n seed (depth + 1) schedule cpu, same)
 
 -- after one call more
 pub numbers_on : (p : PathValue) (seed cpu : ℕ) (r : Record) → r.cpu ≡ cpu
     → numbers_from (length p.setting.scripts) seed 0 (schedule_of (p.news ++ r ∷ []))
     ≡ numbers_from (length p.setting.scripts) seed 0 (schedule_of p.news)
     ++ number_at (length p.setting.scripts) seed (length (schedule_of p.news)) cpu ∷ []
-numbers_on p seed cpu r is = rw (← is, longer_schedule p.news r)
-    (numbers_longer (length p.setting.scripts) seed 0 (schedule_of p.news) r.cpu
-    ∙ ap (λ (d : ℕ). numbers_from (length p.setting.scripts) seed 0 (schedule_of p.news)
-    ++ number_at (length p.setting.scripts) seed d r.cpu ∷ [])
-    (let same : 0 + length (schedule_of p.news) ≡ length (schedule_of p.news) = omega arith in same))
+numbers_on p seed cpu r is =
+    let same : 0 + length (schedule_of p.news) ≡ length (schedule_of p.news) = omega arith in
+    rw (← is, longer_schedule p.news r, numbers_longer (length p.setting.scripts) seed 0, same)
 
 -- each call has one
 numbers_long : (n seed depth : ℕ) (schedule : List ℕ)
@@ -247,24 +214,15 @@ numbers_long n seed depth (c ∷ schedule) = ap (λ (k : ℕ). suc k) (numbers_l
 pub fewer_down : (p q : PathValue) (seed next cpu : ℕ) → next < length p.setting.scripts
     → number_at (length p.setting.scripts) seed (length (schedule_of p.news)) cpu ≡ next
     → IsForth p cpu true q → turns_at seed q 0 < turns_at seed p next
-fewer_down p q seed next cpu less at forth =
+fewer_down p q seed next cpu less number forth =
+    let made = record_of_call p.setting p.news cpu forth.0 in
     let long : length (numbers_from (length p.setting.scripts) seed 0 (schedule_of p.news)) ≡ length p.news =
     numbers_long (length p.setting.scripts) seed 0 (schedule_of p.news)
     ∙ length-map p.news (λ (r : Record). r.cpu) in
-    subst (λ (x : PathValue). turns_at seed x 0 < turns_at seed p next) (sym forth.3)
-    (subst (λ (numbers : List ℕ). turns_left (length p.setting.scripts) (room_of p.setting) numbers 0
-    < turns_at seed p next)
-    (sym (numbers_on p seed cpu (record_of_call p.setting p.news cpu forth.0)
-    (caller p.setting p.news cpu forth.0)
-    ∙ ap (λ (k : ℕ). numbers_from (length p.setting.scripts) seed 0 (schedule_of p.news) ++ k ∷ []) at))
+    rw (forth.3, numbers_on p seed cpu made (caller p.setting p.news cpu forth.0), number)
     (left_down (length p.setting.scripts) (room_of p.setting)
     (numbers_from (length p.setting.scripts) seed 0 (schedule_of p.news)) next less
-    (omega (
-      arith,
-      length-append p.setting.start p.news,
-      long,
-      room_after p.setting p.news forth.2,
-    ))))
+    (omega (arith, length-append p.setting.start p.news, long, room_after p.setting p.news forth.2)))
 
 -- ---- a call that is not made
 

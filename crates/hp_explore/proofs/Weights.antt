@@ -1,9 +1,10 @@
--- A turn leaves less of a walk.
-use Rattle.std.proofs.Common.{◌≡◌, ℕ, suc, ◌+◌, ◌-◌, ◌*◌, ◌^◌, ◌<◌, ◌≤◌, List, ◌∷◌, length, ap, sym, ◌∙◌, arith}
+-- A turn leaves less of a walk, and fewer turns of a search.
+use Rattle.std.proofs.Common.{◌≡◌, ℕ, suc, ◌+◌, ◌-◌, ◌*◌, ◌^◌, ◌<◌, ◌≤◌, List, ◌∷◌, length, ap, sym, ◌∙◌, arith, zero, [], ◌++◌}
 use Rattle.std.proofs.Math.Nat.{mul-lt-mul_of_pos_right, one-le-pow, pow-suc}
 use Rattle.hp_explore.specs.Frames.{digits, left_of}
 use Rattle.hp_schedules.specs.Schedules.{Setting}
 use Rattle.hp_states.specs.declared.frames.Level.{Level}
+use Rattle.hp_explore.specs.Searches.{turns_below, turns_left}
 
 scaled : (a b e : ℕ) → a < b → 0 < e → a * e < b * e
 scaled a b e less some = mul-lt-mul_of_pos_right {m = a} {n = b} {k = e} less some
@@ -54,7 +55,7 @@ left_led n g h frames all frame later after same pushed less is so_far = grind (
 pub left_opened : (n most : ℕ) (frames : List Level) (frame : Level) → frame.next ≡ 0
     → length frames ≤ most
     → left_of n most (frame ∷ frames) < (digits n frames + 1) * (n + 2) ^ (most + 1 - length frames)
-left_opened n most frames frame zero le = grind (arith, opened_plain, some_power, next_power)
+left_opened n most frames frame none le = grind (arith, opened_plain, some_power, next_power)
 
 -- or is left at once
 pub left_counted : (n most : ℕ) (frames : List Level)
@@ -68,3 +69,37 @@ left_back n most frames frame within le =
     back_plain (digits n frames) n _ _ _ (n + 1 - frame.next)
     (some_power n (most + 1 - suc (length frames))) (next_power n most (length frames) le) (omega arith)
     (omega arith)
+
+-- ---- the turns of a search
+
+-- one continuation less
+one_less : (n next x : ℕ) → next < n → (n - next) * x ≡ (n - (next + 1)) * x + x
+one_less n next x less =
+    let more : n - next ≡ suc (n - (next + 1)) = omega (arith, less) in
+    rw more (omega arith)
+
+-- past a continuation
+pub left_past : (n calls : ℕ) (p : List ℕ) (next : ℕ) → next < n
+    → turns_left n calls p (next + 1) < turns_left n calls p next
+left_past n calls [] next less = omega (arith, one_less n next (turns_below n calls + 2) less)
+left_past n calls (c ∷ p) next less = omega (arith, left_past n (calls - 1) p next less)
+
+-- to the first continuation of a continuation
+pub left_down : (n calls : ℕ) (p : List ℕ) (next : ℕ) → next < n → length p < calls
+    → turns_left n calls (p ++ next ∷ []) 0 < turns_left n calls p next
+left_down n zero [] next less room = absurd (omega (arith, room))
+left_down n (suc calls) [] next less room = grind (arith, one_less)
+left_down n calls (c ∷ p) next less room =
+    let shorter : length p < calls - 1 = omega (arith, room) in
+    omega (arith, left_down n (calls - 1) p next less shorter)
+
+-- some are left
+some_left : (n calls : ℕ) (p : List ℕ) (next : ℕ) → 0 < turns_left n calls p next
+some_left n calls [] next = omega arith
+some_left n calls (c ∷ p) next = omega arith
+
+-- back to the place itself, past the continuation
+pub left_up : (n calls : ℕ) (p : List ℕ) (cpu next : ℕ)
+    → turns_left n calls p (cpu + 1) < turns_left n calls (p ++ cpu ∷ []) next
+left_up n calls [] cpu next = omega (arith, some_left n (calls - 1) [] next)
+left_up n calls (c ∷ p) cpu next = omega (arith, left_up n (calls - 1) p cpu next)

@@ -17,7 +17,7 @@ pub fn changes_of(schedule: &[Cpu]) -> usize
 }
 
 /// Returns 1 if one more call by `next` changes the processor, and 0 otherwise.
-#[tactic(auto, using(crate::proofs::Growing::changes_none, crate::proofs::Growing::changes_last))]
+#[tactic(auto, using(crate::proofs::Budgets::changes_none, crate::proofs::Budgets::changes_last))]
 pub(crate) fn change_after(schedule: &[Cpu], next: Cpu) -> usize
     ensures { changes schedule.now + result ≡ changes (schedule.now ++ next ∷ []) }
 {

@@ -125,7 +125,7 @@ fn nearest_of_all<W: Watch>(
 
 /// Returns the first schedule with the fewest changes among those that end as wanted. `known` is
 /// the first of all that end as wanted, and none of these has fewer than `FEW` changes.
-#[tactic(auto, using(crate::proofs::Levels::known_nearest))]
+#[tactic(auto, using(crate::proofs::Budgets::known_nearest))]
 fn nearest_to<W: Watch>(
     alloc: Global,
     machine: &Machine,
@@ -154,7 +154,7 @@ fn nearest_to<W: Watch>(
 
 /// Returns the first schedule with the fewest changes among those that end as wanted, if it has
 /// fewer than `below`. Every schedule that ends as wanted must have at least `from` changes.
-#[tactic(auto, using(crate::proofs::Levels::nearest_found))]
+#[tactic(auto, using(crate::proofs::Budgets::nearest_found))]
 fn nearest_below<W: Watch>(
     alloc: Global,
     machine: &Machine,

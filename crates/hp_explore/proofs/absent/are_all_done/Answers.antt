@@ -1,14 +1,12 @@
 -- The search begins before any call, and goes on until no schedule is left.
-use Rattle.std.proofs.Common.{◌≡◌, [], None, ap, refl, subst, sym, ◌∙◌}
+use Rattle.std.proofs.Common.{[], None, ap, refl, subst, sym, ◌∙◌}
 use Rattle.hp_schedules.specs.Schedules.{Setting, schedule_of}
 use Rattle.hp_explore.specs.Aims.{IsDone}
 use Rattle.hp_explore.specs.Paths.{PathValue}
-use Rattle.hp_explore.specs.PathKeys.{ArePathKeys}
-use Rattle.hp_explore.specs.Searches.{HasTurned, IsOn, IsTrying, turns_at}
+use Rattle.hp_explore.specs.Searches.{IsTrying}
 use Rattle.hp_explore.specs.Settings.{setting}
 use Rattle.hp_explore.specs.Withins.{aim_within}
-use Rattle.hp_explore.specs.declared.searching.SearchTurn.{SearchTurn}
-use Rattle.hp_explore.proofs.LookedUps.{asked}
+use Rattle.hp_explore.proofs.Visits.{asked}
 use Rattle.hp_explore.proofs.PathKeysKept.{keys_none}
 use Rattle.hp_explore.proofs.SearchTurns.{started}
 use Rattle.hp_explore.proofs.absent.are_all_done.Goals as goal
@@ -36,61 +34,31 @@ turns-init g c =
 
 pub turns-preserved-in-On : goal.turns-preserved-in-On
 turns-preserved-in-On g c =
-    let v = c.turns.search in
-    let aim = c.turn.new.aim in
-    let h = g.Q.Question.setting in
-    let lines = g.Q.Question.wanted in
-    let on : IsOn (aim_within v.path.setting aim.wanted.now aim.budget) c.args.seed
-    (λ p. (p.setting ≡ h) × (aim.wanted.now ≡ lines) × (aim.budget ≡ None)
-    × ArePathKeys h (aim_within h lines None) p.news c.turn.new.places.keys)
-    v.path.setting (turns_at c.args.seed v.path v.next) c.turn.new.self =
-    (subst (λ (t : SearchTurn). HasTurned (aim_within v.path.setting aim.wanted.now aim.budget) c.args.seed
-    (λ p. (p.setting ≡ h) × (aim.wanted.now ≡ lines) × (aim.budget ≡ None)
-    × ArePathKeys h (aim_within h lines None) p.news c.turn.new.places.keys)
-    v.path.setting (turns_at c.args.seed v.path v.next) c.turn.new.self t) c.in-On.is
-    c.in_ok-turn.ensures.ok) in
+    let on = rw c.in-On.is at c.in_ok-turn.ensures.ok in
     record {
       schedule = on.schedule;
       trying =
-          subst (λ (x : Setting). IsTrying (aim_within x aim.wanted.now aim.budget) c.args.seed
-          c.turn.new.self.path c.turn.new.self.next c.turn.new.self.visited) (sym on.same) on.trying;
+          subst (λ (x : Setting). IsTrying (aim_within x c.turn.new.aim.wanted.now c.turn.new.aim.budget)
+          c.args.seed c.turn.new.self.path c.turn.new.self.next c.turn.new.self.visited) (sym on.same)
+          on.trying;
       kept = on.kept;
     }
 
 pub turns-preserved : goal.turns-preserved
 turns-preserved g c =
-    let v = c.turns.search in
-    let aim = c.turn.new.aim in
-    let h = g.Q.Question.setting in
-    let lines = g.Q.Question.wanted in
-    let on : IsOn (aim_within v.path.setting aim.wanted.now aim.budget) c.args.seed
-    (λ p. (p.setting ≡ h) × (aim.wanted.now ≡ lines) × (aim.budget ≡ None)
-    × ArePathKeys h (aim_within h lines None) p.news c.turn.new.places.keys)
-    v.path.setting (turns_at c.args.seed v.path v.next) c.turn.new.self =
-    (subst (λ (t : SearchTurn). HasTurned (aim_within v.path.setting aim.wanted.now aim.budget) c.args.seed
-    (λ p. (p.setting ≡ h) × (aim.wanted.now ≡ lines) × (aim.budget ≡ None)
-    × ArePathKeys h (aim_within h lines None) p.news c.turn.new.places.keys)
-    v.path.setting (turns_at c.args.seed v.path v.next) c.turn.new.self t) c.in-New.is
-    c.in_ok-turn.ensures.ok) in
+    let on = rw c.in-New.is at c.in_ok-turn.ensures.ok in
     record {
       schedule = on.schedule;
       trying =
-          subst (λ (x : Setting). IsTrying (aim_within x aim.wanted.now aim.budget) c.args.seed
-          c.turn.new.self.path c.turn.new.self.next c.turn.new.self.visited) (sym on.same) on.trying;
+          subst (λ (x : Setting). IsTrying (aim_within x c.turn.new.aim.wanted.now c.turn.new.aim.budget)
+          c.args.seed c.turn.new.self.path c.turn.new.self.next c.turn.new.self.visited) (sym on.same)
+          on.trying;
       kept = on.kept;
     }
 
 pub returns-in-Over : goal.returns-in-Over
 returns-in-Over g c =
-    let v = c.turns.search in
-    let aim = c.turn.new.aim in
-    let h = g.Q.Question.setting in
-    let lines = g.Q.Question.wanted in
     let kept = c.turns.invariant.kept in
-    λ told. asked (λ x a. IsDone x a []) v.path.setting h aim.wanted.now lines aim.budget kept.0
-    (c.in_ok-turn.ensures.becomes.0 ∙ kept.1) (c.in_ok-turn.ensures.becomes.1 ∙ kept.2)
-    (subst (λ (t : SearchTurn). HasTurned (aim_within v.path.setting aim.wanted.now aim.budget) c.args.seed
-    (λ p. (p.setting ≡ h) × (aim.wanted.now ≡ lines) × (aim.budget ≡ None)
-    × ArePathKeys h (aim_within h lines None) p.news c.turn.new.places.keys)
-    v.path.setting (turns_at c.args.seed v.path v.next) c.turn.new.self t) c.in-Over.is
-    c.in_ok-turn.ensures.ok)
+    let over = rw c.in-Over.is at c.in_ok-turn.ensures.ok in
+    λ told. asked (λ x a. IsDone x a []) _ _ _ _ _ kept.0 (c.in_ok-turn.ensures.becomes.0 ∙ kept.1)
+    (c.in_ok-turn.ensures.becomes.1 ∙ kept.2) over

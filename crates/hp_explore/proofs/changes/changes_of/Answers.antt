@@ -1,6 +1,6 @@
 -- One call more.
 use Rattle.std.proofs.Common.{arith}
-use Rattle.hp_explore.proofs.Growing.{changes_more}
+use Rattle.hp_explore.proofs.Budgets.{changes_more}
 use Rattle.hp_explore.proofs.changes.changes_of.Goals as goal
 
 pub loop-index-preserved : goal.loop-index-preserved

@@ -1,6 +1,6 @@
 -- The one that goes on stands after the other.
 use Rattle.std.proofs.Common.{arith}
-use Rattle.hp_explore.proofs.Ordered.{longer, shorter}
+use Rattle.hp_explore.proofs.Orders.{longer, shorter}
 use Rattle.hp_explore.proofs.earlier.order_of.Goals as goal
 
 pub returns-then-place-other : goal.returns-then-place-other

@@ -1,7 +1,7 @@
 -- A call that a pass finds no room for is nearer than what any needs.
 use Rattle.std.proofs.lemmas.Result.{err_from_is_err_and}
 use Rattle.hp_explore.specs.Settings.{setting}
-use Rattle.hp_explore.proofs.Levels.{near_cause}
+use Rattle.hp_explore.proofs.Budgets.{near_cause}
 use Rattle.hp_explore.proofs.finding.nearest_below.Goals as goal
 
 pub returns-in_err-schedule-clause-err : goal.returns-in_err-schedule-clause-err

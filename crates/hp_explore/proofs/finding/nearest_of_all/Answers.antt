@@ -1,7 +1,7 @@
 -- Why a pass failed.
 use Rattle.std.proofs.lemmas.Result.{err_from_is_err_and}
 use Rattle.hp_explore.specs.Settings.{setting}
-use Rattle.hp_explore.proofs.Levels.{nearer_cause}
+use Rattle.hp_explore.proofs.Budgets.{nearer_cause}
 use Rattle.hp_explore.proofs.finding.nearest_of_all.Goals as goal
 
 pub returns-in_err-schedule-in-Some-clause-err : goal.returns-in_err-schedule-in-Some-clause-err

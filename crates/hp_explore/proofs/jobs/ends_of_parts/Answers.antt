@@ -2,8 +2,8 @@
 use Rattle.std.proofs.Common.{◌≡◌, None, length, arith}
 use Rattle.std.proofs.lemmas.Option.{IfSome_then}
 use Rattle.hp_explore.specs.Settings.{setting}
-use Rattle.hp_explore.proofs.Searched.{parts_found, room_found}
-use Rattle.hp_explore.proofs.Totals.{items}
+use Rattle.hp_explore.proofs.Parts.{parts_found, room_found}
+use Rattle.hp_explore.proofs.Joining.{items}
 use Rattle.hp_explore.proofs.jobs.ends_of_parts.Goals as goal
 
 pub returns-in-Ok-clause-ends : goal.returns-in-Ok-clause-ends

@@ -2,8 +2,8 @@
 use Rattle.std.proofs.Common.{◌<◌, length, map, arith}
 use Rattle.hp_explore.specs.Settings.{setting}
 use Rattle.hp_explore.specs.Sums.{AreParts}
-use Rattle.hp_explore.proofs.Searched.{room_for_all}
-use Rattle.hp_explore.proofs.Totals.{items}
+use Rattle.hp_explore.proofs.Parts.{room_for_all}
+use Rattle.hp_explore.proofs.Joining.{items}
 use Rattle.hp_explore.proofs.jobs.search_parts.Goals as goal
 use Rattle.hp_explore.proofs.jobs.search_parts.Goals.{After-sum}
 

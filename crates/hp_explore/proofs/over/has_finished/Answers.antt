@@ -1,7 +1,7 @@
 -- Each line of the script has an answer, or a call is left.
 use Rattle.std.proofs.Common.{◌≡◌, ap, length, sym}
 use Rattle.std.proofs.lemmas.Option.{slice_get_read}
-use Rattle.hp_explore.proofs.Finished.{finished_if}
+use Rattle.hp_explore.proofs.Answered.{finished_if}
 use Rattle.hp_explore.proofs.over.has_finished.Goals as goal
 
 pub returns : goal.returns

@@ -1,6 +1,5 @@
 -- The machine after the call is one call further.
 use Rattle.std.proofs.Common.{◌≡◌, ◌∷◌, ◌++◌, ◌<◌, [], ℕ, Err, Some, ap, arith, length, refl, subst, sym, ◌∙◌}
-use Rattle.hp_units.specs.LayoutParts.{LayoutParts}
 use Rattle.hp_units.specs.declared.replies.CallFault.{CallFault}
 use Rattle.hp_units.specs.declared.replies.CallFault.TheVariants.{HistoryFull}
 use Rattle.hp_schedules.specs.Cursors.{IsCalledFor}
@@ -17,12 +16,10 @@ called : (c : In-Some)
     → IsCalledFor (setting c.args.start.now c.args.scripts.now) c.args.cpu
     (news_in (setting c.args.start.now c.args.scripts.now) c.args.played.now) (Some c.in-Some.request)
 called c =
-    rw (← c.cpu.view_is) (rw c.in-Some.is at (called_there (setting c.args.start.now c.args.scripts.now) _
-    c.news_since-news.result.now
-    (news_in (setting c.args.start.now c.args.scripts.now) c.args.played.now)
-    c.args.positions.now.cursors.items _ c.news_since-news.ensures
-    (c.in_ok-request.ensures (setting c.args.start.now c.args.scripts.now) refl
-    (sym (c.cpus-cpus.ensures.is ∙ ap (λ (l : LayoutParts). l.cpus) c.layout.ensures))) c.requires.cursors))
+    rw (← c.cpu.view_is) (called_there (setting c.args.start.now c.args.scripts.now) _ _ _ _
+    (news_in (setting c.args.start.now c.args.scripts.now) c.args.played.now) _ _ _ c.in-Some.is
+    c.news_since-news.ensures c.cpus-cpus.ensures.is c.layout.ensures c.in_ok-request.ensures
+    c.requires.cursors)
 
 -- whose record is the latest
 whose : (c : After-latest)
@@ -62,8 +59,7 @@ pub returns-in-Ok-clause-cursors : goal.returns-in-Ok-clause-cursors
 returns-in-Ok-clause-cursors c =
     let g = setting c.args.start.now c.args.scripts.now in
     rw ((whose (goal.at.returns-in-Ok-clause-cursors c).After-latest).1) (c.go_on.ensures.later g (news_in g
-    c.args.played.now) refl
-    (sym (c.cpus-cpus.ensures.is ∙ ap (λ (l : LayoutParts). l.cpus) c.layout.ensures)) c.requires.cursors
+    c.args.played.now) refl (rw (c.cpus-cpus.ensures.is, c.layout.ensures)) c.requires.cursors
     (rw c.cpu-in-Some.view_is (called (goal.at.returns-in-Ok-clause-cursors c).In-Some)))
 
 pub returns-in-Ok-clause-ok : goal.returns-in-Ok-clause-ok
@@ -91,13 +87,10 @@ returns-in-Some-clause-full c =
     (call_full c.in-Err.fault (sym c.from.ensures ∙ full))))
 
 pub returns-clause-ok : goal.returns-clause-ok
-returns-clause-ok c = (
-  rw (← c.cpu.view_is) (rw c.in-None.is at (called_there (setting c.args.start.now c.args.scripts.now) _
-      c.news_since-news.result.now
-      (news_in (setting c.args.start.now c.args.scripts.now) c.args.played.now)
-      c.args.positions.now.cursors.items _ c.news_since-news.ensures
-      (c.in_ok-request.ensures (setting c.args.start.now c.args.scripts.now) refl
-      (sym (c.cpus-cpus.ensures.is ∙ ap (λ (l : LayoutParts). l.cpus) c.layout.ensures)))
-      c.requires.cursors)),
-  refl,
-)
+returns-clause-ok c =
+    let g = setting c.args.start.now c.args.scripts.now in (
+      rw (← c.cpu.view_is) (called_there g _ _ _ _ (news_in g c.args.played.now) _ _ _ c.in-None.is
+          c.news_since-news.ensures c.cpus-cpus.ensures.is c.layout.ensures c.in_ok-request.ensures
+          c.requires.cursors),
+      refl,
+    )

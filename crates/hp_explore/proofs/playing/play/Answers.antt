@@ -1,12 +1,11 @@
 -- One call more in each turn of the loop, or one that is not asked for.
 use Rattle.hp_explore.specs.Settings.{setting}
 use Rattle.hp_explore.specs.Walks.{news_in}
-use Rattle.std.proofs.Common.{◌≡◌, ◌∙◌, [], ap, arith, drop, length, refl, sym}
+use Rattle.std.proofs.Common.{◌≡◌, ◌∙◌, [], ap, arith, drop, length, refl}
 use Rattle.std.proofs.Math.Seq.{drop-length}
 use Rattle.hp_machine.specs.Machine.{MachineValue}
-use Rattle.hp_units.specs.LayoutParts.{LayoutParts}
 use Rattle.std.proofs.lemmas.Result.{err_from_is_err_and}
-use Rattle.hp_explore.proofs.Walking.{filled_along, played_all, played_more, played_none, played_over}
+use Rattle.hp_explore.proofs.Machines.{filled_along, played_all, played_more, played_none, played_over}
 use Rattle.hp_explore.proofs.playing.play.Goals as goal
 
 pub loop-cpu-init : goal.loop-cpu-init
@@ -17,7 +16,7 @@ loop-cpu-init c =
       played_none c.args.machine.now c.in_ok-played.played c.args.scripts.now c.args.schedule.now
           c.in_ok-played.ensures,
       rw none (c.in_ok-positions.ensures.begun (setting c.args.machine.now c.args.scripts.now) refl
-          (sym (c.cpus.ensures.is ∙ ap (λ (l : LayoutParts). l.cpus) c.layout.ensures))),
+          (rw (c.cpus.ensures.is, c.layout.ensures))),
     )
 
 pub loop-cpu-preserved : goal.loop-cpu-preserved

@@ -3,7 +3,7 @@ use Rattle.std.proofs.Common.{take}
 use Rattle.hp_schedules.specs.Cursors.{AreCursors}
 use Rattle.hp_explore.specs.Settings.{setting}
 use Rattle.hp_explore.specs.Walks.{news_in}
-use Rattle.hp_explore.proofs.Walking.{ArePlayed}
+use Rattle.hp_explore.proofs.Machines.{ArePlayed}
 use Rattle.hp_explore.proofs.playing.play.Given as goal
 
 abbrev pub invariant-loop-cpu : goal.invariant-loop-cpu

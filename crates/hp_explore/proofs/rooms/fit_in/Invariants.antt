@@ -1,7 +1,7 @@
 -- The lists so far leave so much.
 use Rattle.std.proofs.Common.{◌≡◌, ◌+◌, take}
 use Rattle.std.specs.Prelude.{sum_by}
-use Rattle.hp_explore.proofs.Totals.{counted_in}
+use Rattle.hp_explore.proofs.Joining.{counted_in}
 use Rattle.hp_explore.proofs.rooms.fit_in.Given as goal
 
 abbrev pub invariant-loop-ends : goal.invariant-loop-ends

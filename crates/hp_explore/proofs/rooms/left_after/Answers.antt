@@ -1,6 +1,6 @@
 -- All of them are taken from the room, or one is more than what is left.
 use Rattle.hp_schedules.specs.declared.tally.Ending.{Ending}
-use Rattle.hp_explore.proofs.Totals.{all_left, left_more, none_left}
+use Rattle.hp_explore.proofs.Joining.{all_left, left_more, none_left}
 use Rattle.hp_explore.proofs.rooms.left_after.Goals as goal
 
 pub loop-end-preserved : goal.loop-end-preserved

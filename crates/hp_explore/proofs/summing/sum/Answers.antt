@@ -7,10 +7,9 @@ use Rattle.hp_schedules.specs.Schedules.{EndsWith, Setting}
 use Rattle.hp_schedules.specs.declared.tally.Ending.{Ending}
 use Rattle.hp_explore.specs.Adding.{AddsLists}
 use Rattle.hp_explore.specs.Sums.{AreParts}
-use Rattle.hp_explore.proofs.Joining.{lists_apart, lists_sum}
+use Rattle.hp_explore.proofs.Joining.{items, lists_apart, lists_sum}
 use Rattle.hp_explore.proofs.Moved.{apart_moved}
 use Rattle.hp_explore.proofs.Parts.{all_added, all_sorted, sorted_in_order}
-use Rattle.hp_explore.proofs.Totals.{items}
 use Rattle.hp_explore.proofs.summing.sum.Goals as goal
 use Rattle.hp_explore.proofs.summing.sum.Goals.{After-into_sorted}
 

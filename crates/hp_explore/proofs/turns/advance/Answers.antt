@@ -1,12 +1,10 @@
 -- The call was made, and its turn leads back; or the script asks for nothing.
-use Rattle.std.proofs.Common.{◌≡◌, ◌∷◌, ◌++◌, ◌<◌, ◌∙◌, [], List, Some, ap, arith, length, refl, sym}
+use Rattle.std.proofs.Common.{◌≡◌, ◌∷◌, ◌++◌, ◌<◌, ◌∙◌, [], Some, ap, arith, length, refl}
 use Rattle.std.proofs.lemmas.List.{length_push}
-use Rattle.hp_units.specs.LayoutParts.{LayoutParts}
 use Rattle.hp_schedules.specs.Cursors.{IsCalledFor}
 use Rattle.hp_schedules.specs.Schedules.{record_of_call}
 use Rattle.hp_explore.specs.Settings.{setting}
-use Rattle.hp_explore.specs.declared.ways.Turn.{Turn}
-use Rattle.hp_explore.proofs.Paths.{advanced, called_there, turned_latest}
+use Rattle.hp_explore.proofs.Paths.{called_there, turned_latest}
 use Rattle.hp_schedules.proofs.Placed.{called_within}
 use Rattle.hp_explore.proofs.turns.advance.Goals as goal
 use Rattle.hp_explore.proofs.turns.advance.Goals.{In-Some, After-latest}
@@ -16,11 +14,8 @@ called : (c : In-Some)
     → IsCalledFor (setting c.args.start.now c.args.scripts.now) c.args.cpu c.args.here.now.records
     (Some c.in-Some.request)
 called c =
-    rw c.in-Some.is at (called_there (setting c.args.start.now c.args.scripts.now) c.args.cpu
-    c.records-news.result.now
-    c.args.here.now.records c.args.positions.now.cursors.items _ c.records-news.ensures
-    (c.in_ok-request.ensures (setting c.args.start.now c.args.scripts.now) refl
-    (sym (c.cpus-cpus.ensures.is ∙ ap (λ (l : LayoutParts). l.cpus) c.layout.ensures))) c.requires.cursors)
+    called_there _ _ _ _ _ c.args.here.now.records _ _ _ c.in-Some.is c.records-news.ensures
+    c.cpus-cpus.ensures.is c.layout.ensures c.in_ok-request.ensures c.requires.cursors
 
 -- it has a script
 within : (c : In-Some) → c.args.cpu < length c.args.scripts.now
@@ -68,32 +63,24 @@ go_on-from-requires-clause-cursors c =
 pub returns-in_ok-way-in-Some-clause-ok : goal.returns-in_ok-way-in-Some-clause-ok
 returns-in_ok-way-in-Some-clause-ok c =
     let g = setting c.args.start.now c.args.scripts.now in
-    let asked = called (goal.at.returns-in_ok-way-in-Some-clause-ok c).In-Some in
-    advanced g c.args.here.now c.make_turn.new.here c.args.cpu c.in-Some.request.event
-    c.in_ok-way-in-Some.way c.latest.result.now c.go_on-from.result c.args.positions.now.cursors.items
-    c.go_on-from.new.self.cursors.items c.args.turns.now.items c.push_reserved.new.self.items asked.0
-    c.in_ok-way-in-Some.ensures.ok (λ before r is. c.latest.ensures before r (c.records.ensures ∙ is))
-    (c.go_on-from.ensures.later g c.args.here.now.records refl
-    (sym (c.cpus-cpus.ensures.is ∙ ap (λ (l : LayoutParts). l.cpus) c.layout.ensures)) c.requires.cursors
-    asked)
-    (omega (
-      arith,
-      within (goal.at.returns-in_ok-way-in-Some-clause-ok c).In-Some,
-      c.requires.cursors.many,
-      c.go_on-from.ensures.many,
-    ))
-    c.go_on-from.ensures.back
-    (c.push_reserved.ensures.items
-    ∙ ap (λ (ts : List Turn). ts ++ record { way = c.in_ok-way-in-Some.way; from = c.go_on-from.result } ∷ [])
-    c.in_ok-reserve.ensures.items)
+    let before = goal.at.returns-in_ok-way-in-Some-clause-ok c in
+    let asked = called before.In-Some in (
+      c.in-Some.request.event,
+      record { way = c.in_ok-way-in-Some.way; from = c.go_on-from.result },
+      asked.0,
+      c.in_ok-way-in-Some.ensures.ok,
+      rw (whose before.After-latest).1 (c.go_on-from.ensures.later g c.args.here.now.records refl
+          (rw (c.cpus-cpus.ensures.is, c.layout.ensures)) c.requires.cursors asked),
+      omega (arith, within before.In-Some, c.requires.cursors.many, c.go_on-from.ensures.many),
+      c.go_on-from.ensures.back,
+      rw (c.push_reserved.ensures.items, c.in_ok-reserve.ensures.items),
+    )
 
 pub returns-in-None-clause-ok : goal.returns-in-None-clause-ok
 returns-in-None-clause-ok c = (
-  rw c.in-None.is at (called_there (setting c.args.start.now c.args.scripts.now) c.args.cpu
-      c.records-news.result.now
-      c.args.here.now.records c.args.positions.now.cursors.items _ c.records-news.ensures
-      (c.in_ok-request.ensures (setting c.args.start.now c.args.scripts.now) refl
-      (sym (c.cpus-cpus.ensures.is ∙ ap (λ (l : LayoutParts). l.cpus) c.layout.ensures))) c.requires.cursors),
+  called_there (setting c.args.start.now c.args.scripts.now) _ _ _ _ c.args.here.now.records _ _ _
+      c.in-None.is c.records-news.ensures c.cpus-cpus.ensures.is c.layout.ensures c.in_ok-request.ensures
+      c.requires.cursors,
   refl,
   refl,
   c.in_ok-reserve.ensures.items,

@@ -3,7 +3,7 @@ use Rattle.std.proofs.Common.{List, ap, arith, length, ◌∙◌}
 use Rattle.std.proofs.lemmas.List.{length-take-le}
 use Rattle.hp_units.specs.declared.replies.Record.{Record}
 use Rattle.hp_schedules.proofs.Copied.{copied_more}
-use Rattle.hp_explore.proofs.Turning.{same_event, with_event}
+use Rattle.hp_explore.proofs.Stepped.{same_event, with_event}
 use Rattle.hp_explore.proofs.turns.copies.Goals as goal
 
 pub push_reserved-requires : goal.push_reserved-requires

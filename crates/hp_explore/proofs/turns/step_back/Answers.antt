@@ -1,13 +1,12 @@
 -- The latest way leads back over the latest record.
-use Rattle.std.proofs.Common.{◌≡◌, ◌∷◌, ◌++◌, [], Option, length, ap, arith, sym, ◌∙◌, option_to_list, reverse}
+use Rattle.std.proofs.Common.{◌≡◌, ◌∷◌, ◌++◌, [], length, ap, arith, sym, ◌∙◌, reverse, refl}
 use Rattle.hp_units.specs.declared.replies.Record.{Record}
 use Rattle.hp_explore.specs.Paths.{IsPath, IsWayBack}
 use Rattle.hp_schedules.specs.Schedules.{Setting}
-use Rattle.hp_explore.specs.declared.ways.Turn.{Turn}
 use Rattle.std.proofs.lemmas.List.{length_push, nil_from_length, reverse-append}
-use Rattle.hp_explore.proofs.Paths.{none_made, taken_back}
 use Rattle.hp_explore.proofs.turns.step_back.Goals as goal
 use Rattle.hp_explore.proofs.turns.step_back.Goals.{In-Some}
+use Rattle.hp_memory.specs.Steps.{StepsValue}
 
 popped : (c : In-Some) → c.args.turns.now.items ≡ c.pop.new.self.items ++ c.in-Some.turn ∷ []
 popped c = rw (c.pop.ensures.items, c.in-Some.is)
@@ -36,16 +35,20 @@ lead_back-requires c =
 
 pub returns-in-Some : goal.returns-in-Some
 returns-in-Some c =
-    λ g path. let back = over (goal.at.returns-in-Some c).In-Some g path in
-    taken_back g c.args.here.now c.lead_back.new.here c.latest.result.now.cpu
-    c.args.positions.now.cursors.items c.go_back.new.self.cursors.items c.pop.new.self.items c.in-Some.turn
-    back (c.lead_back.ensures back.0 back.1 back.4) c.go_back.ensures
-    (λ before r is. ap (λ (x : Record). x.cpu) (sym (c.latest.ensures before r (c.records.ensures ∙ is))))
+    λ g path.
+    let back = over (goal.at.returns-in-Some c).In-Some g path in
+    let is = c.lead_back.ensures back.0 back.1 back.4 in
+    let latest = c.latest.ensures back.0.records back.1 (c.records.ensures ∙ back.3) in
+    let own : back.1.cpu ≡ c.latest.result.now.cpu = ap (λ (x : Record). x.cpu) (sym latest) in (
+      back.1,
+      own,
+      back.3 ∙ ap (λ (p : StepsValue). p.records ++ back.1 ∷ []) (sym is),
+      rw (is, c.go_back.ensures, ← own) (record { at = back.2; cursors_at = back.6; back = back.7 }),
+    )
 
 pub returns-in-None : goal.returns-in-None
 returns-in-None c =
     let none = rw c.in-None.is at c.pop.ensures.cases in
-    λ g path. none_made g c.args.here.now c.args.positions.now.cursors.items c.args.turns.now.items
-    c.pop.new.self.items path
-    (c.pop.ensures.items ∙ ap (λ (o : Option Turn). c.pop.new.self.items ++ option_to_list o) c.in-None.is)
-    (nil_from_length c.pop.new.self.items (sym c.pop.new.self.ok.0 ∙ none.1))
+    let rest = nil_from_length c.pop.new.self.items (sym c.pop.new.self.ok.0 ∙ none.1) in
+    let same : c.args.turns.now.items ≡ [] = rw (c.pop.ensures.items, c.in-None.is, rest) in
+    λ g path. (rw same at path.back, refl, rw (rest, ← same) path)

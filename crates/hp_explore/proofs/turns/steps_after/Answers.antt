@@ -4,8 +4,8 @@ use Rattle.std.proofs.lemmas.Result.{IfErr-weaker}
 use Rattle.hp_units.specs.declared.replies.Refusal.TheVariants.{Gone}
 use Rattle.hp_units.specs.declared.replies.Reply.TheVariants.{Refused}
 use Rattle.hp_explore.specs.Settings.{setting}
-use Rattle.hp_explore.proofs.Filled.{cause_along}
-use Rattle.hp_explore.proofs.Gone.{gone_leads}
+use Rattle.hp_explore.proofs.Continued.{cause_along}
+use Rattle.hp_explore.proofs.Stepped.{gone_leads}
 use Rattle.hp_explore.proofs.turns.steps_after.Goals as goal
 
 pub returns-clause-ok : goal.returns-clause-ok

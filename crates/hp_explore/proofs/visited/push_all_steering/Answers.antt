@@ -1,12 +1,14 @@
 -- One processor's numbers more.
-use Rattle.hp_laws.specs.Numberings.{number_of}
-use Rattle.hp_explore.proofs.PlaceKeys.{steered_more}
 use Rattle.hp_explore.proofs.visited.push_all_steering.Goals as goal
+use Rattle.std.proofs.Common.{◌≡◌, ◌+◌, suc, ◌++◌, arith, refl}
+use Rattle.std.proofs.lemmas.List.{append_assoc}
 
 pub loop-cpu-preserved : goal.loop-cpu-preserved
 loop-cpu-preserved c =
-    steered_more (number_of c.args.fixed c.args.latest.now) c.args.scripts.now c.args.news.now
-    c.args.positions.now.cursors.items c.loop-cpu.cpu c.args.numbers.now.items
-    c.loop-cpu.numbers.items c.push_steering.new.numbers.items
-    c.loop-cpu.invariant
-    (c.in_ok-push_steering.ensures c.if-not-branch.false)
+    let so_far = c.loop-cpu.invariant in
+    let more = c.in_ok-push_steering.ensures c.if-not-branch.false in
+    let next : suc c.loop-cpu.cpu ≡ c.loop-cpu.cpu + 1 = omega arith in (
+      so_far.0 ++ more.0,
+      rw (more.1, so_far.1, append_assoc),
+      λ g same at. rw (← next) (so_far.0, more.0, refl, more.2 g same at, so_far.2 g same at),
+    )

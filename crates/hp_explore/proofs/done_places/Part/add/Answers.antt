@@ -1,7 +1,7 @@
 -- The place that is added is done.
 use Rattle.std.proofs.Common.{None}
 use Rattle.hp_explore.specs.Withins.{aim_within}
-use Rattle.hp_explore.proofs.DoneKeys.{done_added}
+use Rattle.hp_explore.proofs.PathKeysKept.{done_added}
 use Rattle.hp_explore.proofs.done_places.Part.add.Goals as goal
 
 pub invariant_of-self-2 : goal.invariant_of-self-2

@@ -1,6 +1,6 @@
 -- The place before it on the way is known again.
 use Rattle.std.proofs.Common.{◌-◌, ℕ, ap, take, ◌∙◌}
-use Rattle.hp_explore.proofs.LatestPaths.{latest_less}
+use Rattle.hp_explore.proofs.LatestNumbers.{latest_less}
 use Rattle.hp_explore.proofs.latest_ops.LatestOps.go_back.Goals as goal
 
 pub returns : goal.returns

@@ -1,8 +1,7 @@
 -- The place is one call further on the path.
 use Rattle.std.proofs.Common.{[], ◌∷◌, ◌++◌, ◌-◌, ℕ, List, ap, sym, ◌∙◌}
 use Rattle.hp_explore.specs.LatestOps.{last_of, ops_after}
-use Rattle.hp_explore.proofs.LatestNumbers.{ops_end, ops_stay}
-use Rattle.hp_explore.proofs.LatestPaths.{here_at, last_range, latest_more}
+use Rattle.hp_explore.proofs.LatestNumbers.{here_at, last_range, latest_more, ops_end, ops_stay}
 use Rattle.hp_explore.proofs.latest_ops.LatestOps.go_on.Goals as goal
 
 pub returns-in_ok-push_operations : goal.returns-in_ok-push_operations

@@ -1,7 +1,6 @@
 -- No turn was made.
-use Rattle.std.proofs.Common.{◌≡◌, [], ap, refl, sym, ◌∙◌}
+use Rattle.std.proofs.Common.{◌≡◌, [], ap, refl}
 use Rattle.std.proofs.Math.Seq.{drop-length}
-use Rattle.hp_units.specs.LayoutParts.{LayoutParts}
 use Rattle.hp_memory.specs.Steps.{StepsValue}
 use Rattle.hp_explore.specs.Settings.{setting}
 use Rattle.hp_explore.proofs.Machines.{reached_start}
@@ -25,8 +24,7 @@ invariant_of-result c =
           (ap (λ (p : StepsValue). p.state) c.in_ok-here.ensures.value)
           (ap (λ (p : StepsValue). p.records) c.in_ok-here.ensures.value);
       cursors_at =
-          rw none (c.in_ok-positions.ensures.begun g refl
-          (sym (c.cpus.ensures.is ∙ ap (λ (l : LayoutParts). l.cpus) c.layout.ensures)));
+          rw none (c.in_ok-positions.ensures.begun g refl (rw (c.cpus.ensures.is, c.layout.ensures)));
       back = none;
     })
 

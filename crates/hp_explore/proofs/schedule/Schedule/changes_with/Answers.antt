@@ -1,6 +1,6 @@
 -- A schedule has fewer changes than calls.
 use Rattle.std.proofs.Common.{arith}
-use Rattle.hp_explore.proofs.Growing.{changes_few}
+use Rattle.hp_explore.proofs.Budgets.{changes_few}
 use Rattle.hp_explore.proofs.schedule.Schedule.changes_with.Goals as goal
 
 pub overflow_add-result : goal.overflow_add-result

@@ -1,57 +1,52 @@
 -- The end at its place counts the schedules of both, and keeps the earlier of their firsts.
-use Rattle.std.proofs.Common.{◌≡◌, ℕ, ◌+◌, ◌<◌, ◌^◌, List, Result, Ok, Err, Some, Vec, Global, get_or, length, set, arith, ap, refl, sym, ◌∙◌}
+use Rattle.std.proofs.Common.{◌≡◌, ℕ, ◌+◌, ◌<◌, List, Result, Ok, Err, Some, Vec, Global, length, set, arith, ap, refl, sym, ◌∙◌}
 use Rattle.std.specs.Prelude.{OnErr, sum_by}
 use Rattle.std.proofs.lemmas.List.{set-get_or}
 use Rattle.std.proofs.lemmas.List.Sums.{get_or-le-sum_by, sum_by-set}
 use Rattle.std.proofs.lemmas.Option.{get_or_from_slice_get, slice_get_within}
-use Rattle.hp_schedules.specs.Notes.{AreKnown, HasEndAt}
+use Rattle.hp_schedules.specs.Notes.{AreKnown}
 use Rattle.hp_schedules.specs.Outcomes.{OutcomeValue}
 use Rattle.hp_schedules.specs.declared.tally.Ending.{Ending}
 use Rattle.hp_schedules.proofs.Known.{known_set}
 use Rattle.hp_explore.proofs.sums.Sums.add_at.Goals as goal
+use Rattle.hp_explore.proofs.sums.Sums.add_at.Goals.{After-index_mut-entry}
 
 -- an end of these parts
 abbrev ending : OutcomeValue → ℕ → Vec ℕ Global → Ending
 ending x n first = record { outcome = x; count = n; first = first }
 
-module _ (ends old : List Ending) (x : OutcomeValue) (place : ℕ) (e : Ending) (shown : ends ≡ old)
-    (there : HasEndAt old x place) (is : e ≡ get_or ends place e) where
-  -- what is read at the place is the end there
-  read : e ≡ there.0
-  read = is ∙ get_or_from_slice_get ends place there.0 e (rw shown there.1)
+-- what is read at the place is the end there
+read : (c : After-index_mut-entry) → c.index_mut-entry.result.now ≡ c.requires.at.0
+read c =
+    c.index_mut-entry.ensures.value
+    ∙ get_or_from_slice_get c.self.inside.ends.items c.args.place c.requires.at.0 _
+    (rw c.self.view_is c.requires.at.1)
 
-  within : place < length ends
-  within = rw shown (slice_get_within old place there.0 there.1)
+within : (c : After-index_mut-entry) → c.args.place < length c.self.inside.ends.items
+within c = rw c.self.view_is (slice_get_within c.args.self.now c.args.place c.requires.at.0 c.requires.at.1)
 
-  -- its count is one of those that are added up
-  fits : (count : ℕ) → sum_by (λ (f : Ending). f.count) old + count < 2 ^ 64 → e.count + count < 2 ^ 64
-  fits count room =
-      omega (
-        arith,
-        room,
-        ap (λ (xs : List Ending). sum_by (λ (f : Ending). f.count) xs) shown,
-        ap (λ (f : Ending). f.count) is,
-        get_or-le-sum_by (λ (f : Ending). f.count) ends place e within,
-      )
+-- the counts with another in its place
+total : (c : After-index_mut-entry) (count : ℕ) (more : Ending)
+    → more.count ≡ c.index_mut-entry.result.now.count + count
+    → c.self.inside.total + count
+    ≡ sum_by (λ (f : Ending). f.count) (set c.self.inside.ends.items c.args.place more)
+total c count more counted =
+    omega (
+      arith,
+      c.self.invariant.0,
+      counted,
+      ap (λ (f : Ending). f.count) c.index_mut-entry.ensures.value,
+      sum_by-set (λ (f : Ending). f.count) c.self.inside.ends.items c.args.place more
+          c.index_mut-entry.result.now (within c),
+    )
 
-  -- the counts with another in its place
-  total : (all count : ℕ) (more : Ending) → more.count ≡ e.count + count
-      → all ≡ sum_by (λ (f : Ending). f.count) ends
-      → all + count ≡ sum_by (λ (f : Ending). f.count) (set ends place more)
-  total all count more counted so_far =
-      omega (
-        arith,
-        so_far,
-        counted,
-        ap (λ (f : Ending). f.count) is,
-        sum_by-set (λ (f : Ending). f.count) ends place more e within,
-      )
-
-  -- the digests are known still
-  known : {S : Type 0} (more : Ending) (latest : _) → more.outcome ≡ e.outcome → AreKnown {S = S} ends latest
-      → AreKnown (set ends place more) latest
-  known more latest same ok =
-      known_set ends place e more latest (rw shown (there.1 ∙ ap Some (sym read))) same ok
+-- the digests are known still
+known : (c : After-index_mut-entry) (more : Ending)
+    → more.outcome ≡ c.index_mut-entry.result.now.outcome
+    → AreKnown (set c.self.inside.ends.items c.args.place more) c.self.inside.latest
+known c more same =
+    known_set c.self.inside.ends.items c.args.place c.index_mut-entry.result.now more c.self.inside.latest
+    (rw c.self.view_is (c.requires.at.1 ∙ ap Some (sym (read c)))) same c.self.invariant.1
 
 -- of an error a fact that holds at any rate
 at_err : {A E : Type 0} (r : Result A E) (P : Type 0) → P → OnErr r P
@@ -60,47 +55,37 @@ at_err (Err e) P holds = holds
 
 pub overflow_add-entry : goal.overflow_add-entry
 overflow_add-entry c =
-    let few = fits c.self.inside.ends.items c.args.self.now c.args.end.now.outcome c.args.place
-    c.index_mut-entry.result.now c.self.view_is c.requires.at c.index_mut-entry.ensures.value
-    c.args.end.now.count c.requires.room in
-    omega (arith, few)
+    omega (
+      arith,
+      c.requires.room,
+      ap (λ (xs : List Ending). sum_by (λ (f : Ending). f.count) xs) c.self.view_is,
+      ap (λ (f : Ending). f.count) c.index_mut-entry.ensures.value,
+      get_or-le-sum_by (λ (f : Ending). f.count) c.self.inside.ends.items c.args.place
+          c.index_mut-entry.result.now (within (goal.at.overflow_add-entry c).After-index_mut-entry),
+    )
 
 pub invariant_of-self : goal.invariant_of-self
 invariant_of-self c =
+    let here = (goal.at.invariant_of-self c).After-index_mut-entry in
     let e = c.index_mut-entry.result.now in
     let same : Ending = ending e.outcome e.count c.keep_earlier.new.kept in
-    let ends = c.self.inside.ends.items in (
-      omega (
-        arith,
-        total ends c.args.self.now c.args.end.now.outcome c.args.place e c.self.view_is c.requires.at
-            c.index_mut-entry.ensures.value c.self.inside.total 0 same (omega arith) c.self.invariant.0,
-      ),
-      known ends c.args.self.now c.args.end.now.outcome c.args.place e c.self.view_is c.requires.at
-          c.index_mut-entry.ensures.value same c.self.inside.latest refl c.self.invariant.1,
-    )
+    (omega (arith, total here 0 same (omega arith)), known here same refl)
 
 pub invariant_of-self-2 : goal.invariant_of-self-2
 invariant_of-self-2 c =
+    let here = (goal.at.invariant_of-self-2 c).After-index_mut-entry in
     let e = c.index_mut-entry.result.now in
     let more : Ending = ending e.outcome (e.count + c.args.end.now.count) c.keep_earlier.new.kept in
-    let ends = c.self.inside.ends.items in (
-      total ends c.args.self.now c.args.end.now.outcome c.args.place e c.self.view_is c.requires.at
-          c.index_mut-entry.ensures.value c.self.inside.total c.args.end.now.count more refl
-          c.self.invariant.0,
-      known ends c.args.self.now c.args.end.now.outcome c.args.place e c.self.view_is c.requires.at
-          c.index_mut-entry.ensures.value more c.self.inside.latest refl c.self.invariant.1,
-    )
+    (total here c.args.end.now.count more refl, known here more refl)
 
 pub returns-clause-ok : goal.returns-clause-ok
 returns-clause-ok c =
     let e = c.index_mut-entry.result.now in
-    let more : Ending = ending e.outcome (e.count + c.args.end.now.count) c.keep_earlier.new.kept in
-    let here = read c.self.inside.ends.items c.args.self.now c.args.end.now.outcome c.args.place e
-    c.self.view_is c.requires.at c.index_mut-entry.ensures.value in
+    let here = read (goal.at.returns-clause-ok c).After-index_mut-entry in
     record {
       at = c.args.place;
       entry = c.requires.at.0;
-      more = more;
+      more = ending e.outcome (e.count + c.args.end.now.count) c.keep_earlier.new.kept;
       here = c.requires.at.1;
       same = c.requires.at.2;
       outcome_is = rw here;

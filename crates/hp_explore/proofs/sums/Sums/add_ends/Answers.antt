@@ -1,6 +1,6 @@
 -- One end more.
 use Rattle.std.proofs.Common.{◌^◌}
-use Rattle.hp_explore.proofs.Totals.{ends_more, ends_room}
+use Rattle.hp_explore.proofs.Joining.{ends_more, ends_room}
 use Rattle.hp_explore.proofs.sums.Sums.add_ends.Goals as goal
 
 pub add_end-requires : goal.add_end-requires

@@ -1,6 +1,6 @@
 -- One list more.
 use Rattle.std.proofs.Common.{◌^◌}
-use Rattle.hp_explore.proofs.Totals.{items, lists_more, lists_room}
+use Rattle.hp_explore.proofs.Joining.{items, lists_more, lists_room}
 use Rattle.hp_explore.proofs.sums.Sums.add_lists.Goals as goal
 
 pub add_ends-requires : goal.add_ends-requires

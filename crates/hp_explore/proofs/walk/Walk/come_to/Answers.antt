@@ -6,9 +6,8 @@ use Rattle.hp_states.specs.Places.{memory_at}
 use Rattle.hp_states.specs.Seen.{IsOnWay}
 use Rattle.hp_states.specs.declared.frames.Level.{Level}
 use Rattle.hp_schedules.specs.Notes.{TallyValue}
-use Rattle.hp_explore.proofs.Framing.{back_setting, below_many, frames_pushed, walk_opens}
+use Rattle.hp_explore.proofs.Framing.{arrival, back_setting, below_many, frames_pushed, gone_back, walk_opens}
 use Rattle.hp_states.proofs.Keeping.{memo_added, memo_same}
-use Rattle.hp_explore.proofs.Walked.{arrival, gone_back}
 use Rattle.hp_explore.proofs.Weights.{left_counted, left_opened}
 use Rattle.hp_explore.proofs.walk.Walk.come_to.Given.{Over}
 use Rattle.hp_explore.proofs.walk.Walk.come_to.Goals as goal
@@ -52,22 +51,18 @@ arrive-requires-clause-arrival o c =
 pub returns-in-Counted-clause-kept : goal.returns-in-Counted-clause-kept
 returns-in-Counted-clause-kept o c =
     let w = c.args.self.now in
-    let entered =
-    rw c.in-Counted.is at (entered_here o (goal.at.returns-in-Counted-clause-kept o c).In_ok-entry) in
+    let here = (goal.at.returns-in-Counted-clause-kept o c).In_ok-entry in
+    let entered = rw c.in-Counted.is at (entered_here o here) in
     let all = gone_back w.path.setting w.part (length w.tally.trail) w.tally c.arrive.new.tally w.path.news
-    (frames_of w) (reverse c.reserve.new.self.items) c.take_back.ensures.back.0 c.take_back.new.path
-    c.take_back.new.memo w.processors (ap reverse c.in_ok-reserve.ensures.items) entered.1
-    c.requires.coming.below
-    entered.0 c.take_back.ensures.back.1
-    (memo_same w.path.setting c.arrive.new.tally.ends c.arrive.new.memo c.take_back.new.memo
-    c.take_back.ensures.same
-    (memo_added w.path.setting w.tally.ends c.arrive.new.tally.ends c.arrive.new.memo entered.1.grown
+    (frames_of w) (reverse c.reserve.new.self.items) _ _ _ _ (ap reverse c.in_ok-reserve.ensures.items)
+    entered.1 c.requires.coming.below entered.0 c.take_back.ensures.back.1
+    (memo_same _ _ _ _ c.take_back.ensures.same (memo_added _ _ _ _ entered.1.grown
     (c.arrive.ensures.memo w.path.setting w.tally.ends c.requires.coming.memo)))
     c.requires.coming.processors c.requires.coming.short in
     record {
       walked = all.0;
       memo = all.1;
-      way = c.take_back.ensures.way (way_here o (goal.at.returns-in-Counted-clause-kept o c).In_ok-entry);
+      way = c.take_back.ensures.way (way_here o here);
       processors = all.2;
       few = c.requires.coming.few;
       short = all.3;
@@ -76,17 +71,12 @@ returns-in-Counted-clause-kept o c =
 pub returns-in-Counted-clause-less : goal.returns-in-Counted-clause-less
 returns-in-Counted-clause-less o c =
     let w = c.args.self.now in
-    rw (back_setting _ _ _ _ _ refl c.take_back.ensures.back.1, c.in_ok-reserve.ensures.items) (left_counted
-    w.processors
-    w.path.setting.layout.history (frames_of w))
+    rw (back_setting _ _ _ _ _ refl c.take_back.ensures.back.1, c.in_ok-reserve.ensures.items)
+    (left_counted w.processors w.path.setting.layout.history (frames_of w))
 
 pub returns-in-Counted-clause-same : goal.returns-in-Counted-clause-same
 returns-in-Counted-clause-same o c =
-    let w = c.args.self.now in (
-      back_setting _ _ _ _ _ refl c.take_back.ensures.back.1,
-      c.arrive.ensures.limit,
-      refl,
-    )
+    (back_setting _ _ _ _ _ refl c.take_back.ensures.back.1, c.arrive.ensures.limit, refl)
 
 pub returns-in-Open-clause-kept : goal.returns-in-Open-clause-kept
 returns-in-Open-clause-kept o c =
@@ -114,9 +104,4 @@ returns-in-Open-clause-less o c =
     let pushed = frames_pushed _ _ _ _ c.in_ok-reserve.ensures.items c.push_reserved.ensures.items in
     rw pushed (left_opened w.processors w.path.setting.layout.history (frames_of w) c.in-Open.frame
     (ap (λ (f : Level). f.next) entered.1)
-    (omega (
-      arith,
-      below_many w.path.setting w.part w.tally (length w.tally.trail) w.path.news (frames_of w)
-          c.requires.coming.below,
-      c.requires.coming.short,
-    )))
+    (omega (arith, below_many _ w.part _ _ _ (frames_of w) c.requires.coming.below, c.requires.coming.short)))

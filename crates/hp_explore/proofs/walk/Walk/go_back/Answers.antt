@@ -9,10 +9,9 @@ use Rattle.hp_states.specs.Frames.{GoOn, IsLeaving}
 use Rattle.hp_states.specs.Places.{memory_at, standing}
 use Rattle.hp_states.specs.Seen.{Grow}
 use Rattle.hp_states.specs.Walks.{IsNotedAtEnd, IsPartWalkedThrough}
-use Rattle.hp_explore.proofs.Framing.{back_setting, below_many}
+use Rattle.hp_explore.proofs.Framing.{back_setting, below_many, gone_back}
 use Rattle.hp_states.proofs.Entered.{frame_goes_on, go_on_twice}
 use Rattle.hp_states.proofs.Keeping.{memo_added, memo_same, way_same}
-use Rattle.hp_explore.proofs.Walked.{gone_back}
 use Rattle.hp_states.proofs.Noting.{noted_grows, walked_on}
 use Rattle.hp_explore.proofs.Weights.{left_back}
 use Rattle.hp_explore.proofs.walk.Walk.go_back.Given.{Over}
@@ -46,8 +45,7 @@ through o c =
 grown : (o : Over) (c : In_ok-note o) → Grow c.args.self.now.tally.ends c.note.new.tally.ends
 grown o c =
     let w = c.args.self.now in
-    noted_grows w.processors w.path.news w.path.setting c.args.is_end w.tally.ends c.note.new.tally.ends
-    (noted_here o c)
+    noted_grows w.processors w.path.news w.path.setting c.args.is_end _ _ (noted_here o c)
 
 noted_on : (o : Over) (c : In_ok-note o)
     → GoOn (length c.args.self.now.tally.trail) c.args.self.now.tally c.note.new.tally
@@ -79,8 +77,7 @@ leave-requires-clause-processors o c = c.requires.kept.processors ∙ sym c.posi
 pub leave-requires-clause-leaving : goal.leave-requires-clause-leaving
 leave-requires-clause-leaving o c = (
   c.args.self.now.path.setting,
-  leaves o (goal.at.leave-requires-clause-leaving o c).In_ok-note c.records-2.result.now
-      c.positions.result.now.cursors.items c.records-2.ensures c.positions.ensures,
+  leaves o (goal.at.leave-requires-clause-leaving o c).In_ok-note _ _ c.records-2.ensures c.positions.ensures,
 )
 
 pub returns-clause-kept : goal.returns-clause-kept
@@ -89,17 +86,13 @@ returns-clause-kept o c =
     let here = (goal.at.returns-clause-kept o c).In_ok-note in
     let all =
     gone_back w.path.setting w.part c.args.frame.start w.tally c.leave.new.tally w.path.news (frames_of w)
-    (frames_of w) c.take_back.ensures.back.0 c.take_back.new.path c.take_back.new.memo w.processors refl
-    (go_on_twice c.args.frame.start (length w.tally.trail) w.tally c.note.new.tally c.leave.new.tally
-    c.requires.kept.walked.1.within (noted_on o here) c.leave.ensures.tally)
+    _ _ _ _ _ refl
+    (go_on_twice _ _ _ _ _ c.requires.kept.walked.1.within (noted_on o here) c.leave.ensures.tally)
     c.requires.kept.walked.2
     (rw c.leave.ensures.ends (through o here))
     c.take_back.ensures.back.1
-    (memo_same w.path.setting c.leave.new.tally.ends c.leave.new.memo c.take_back.new.memo
-    c.take_back.ensures.same
-    (c.in_ok-leave.ensures.memo w.path.setting
-    (leaves o here c.records-2.result.now c.positions.result.now.cursors.items c.records-2.ensures
-    c.positions.ensures)))
+    (memo_same _ _ _ _ c.take_back.ensures.same (c.in_ok-leave.ensures.memo w.path.setting
+    (leaves o here _ _ c.records-2.ensures c.positions.ensures)))
     c.requires.kept.processors c.requires.kept.short in
     record {
       walked = all.0;
@@ -116,20 +109,13 @@ pub returns-clause-less : goal.returns-clause-less
 returns-clause-less o c =
     let w = c.args.self.now in
     rw (back_setting _ _ _ _ _ refl c.take_back.ensures.back.1) (left_back w.processors
-    w.path.setting.layout.history (frames_of w)
-    c.args.frame
+    w.path.setting.layout.history (frames_of w) c.args.frame
     (omega (arith, c.requires.kept.walked.0.within, c.requires.kept.processors))
-    (omega (
-      arith,
-      below_many w.path.setting w.part w.tally c.args.frame.start w.path.news (frames_of w)
-          c.requires.kept.walked.2,
-      c.requires.kept.short,
-    )))
+    (omega (arith, below_many _ w.part _ _ _ (frames_of w) c.requires.kept.walked.2, c.requires.kept.short)))
 
 pub returns-clause-same : goal.returns-clause-same
-returns-clause-same o c =
-    let w = c.args.self.now in (
-      back_setting _ _ _ _ _ refl c.take_back.ensures.back.1,
-      c.leave.ensures.limit ∙ c.note.ensures.limit,
-      refl,
-    )
+returns-clause-same o c = (
+  back_setting _ _ _ _ _ refl c.take_back.ensures.back.1,
+  c.leave.ensures.limit ∙ c.note.ensures.limit,
+  refl,
+)

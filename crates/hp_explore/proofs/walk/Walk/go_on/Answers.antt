@@ -1,15 +1,18 @@
 -- Where a call was made the walk comes to a place by it.
-use Rattle.std.proofs.Common.{true, false, length, reverse, ap, refl, sym, ◌∙◌, arith}
+use Rattle.std.proofs.Common.{true, false, length, ap, refl, sym, ◌∙◌, arith, ◌≡◌}
 use Rattle.hp_explore.specs.Frames.{frames_of}
-use Rattle.hp_schedules.specs.Schedules.{Setting}
+use Rattle.hp_schedules.specs.Schedules.{Setting, record_of_call, schedule_of}
 use Rattle.hp_states.specs.declared.frames.Level.{Level}
-use Rattle.hp_explore.proofs.Framing.{frames_pushed, walk_leads, walk_passes}
+use Rattle.hp_explore.proofs.Framing.{forth_setting, frames_pushed, short_on, some_news, walk_leads}
 use Rattle.hp_states.proofs.Keeping.{memo_extended}
 use Rattle.std.proofs.lemmas.Result.{err_from_is_err_and}
 use Rattle.hp_explore.proofs.OfPart.{cause_within}
-use Rattle.hp_explore.proofs.Walked.{forth_setting, short_on, some_news, way_on}
 use Rattle.hp_explore.proofs.Weights.{left_led, left_passed}
 use Rattle.hp_explore.proofs.walk.Walk.go_on.Goals as goal
+use Rattle.hp_schedules.proofs.Alike.{call_leaves, event_kept}
+use Rattle.hp_explore.specs.Paths.{PathValue}
+use Rattle.hp_states.proofs.Rooms.{done_over}
+use Rattle.hp_states.proofs.Noting.{over_next}
 
 pub passed-requires : goal.passed-requires
 passed-requires o c = omega (arith, c.requires.some, c.requires.kept.few)
@@ -22,12 +25,23 @@ returns-then-not-branch-clause-kept o c =
     let w = c.args.self.now in
     let forth = rw c.if-not-branch.true at c.in_ok-forward.ensures.ok in
     let same = forth_setting w.path c.forward.new.self c.args.frame.next false forth in
+    let was = c.requires.kept.walked in
     let pushed = frames_pushed _ _ _ _ c.in_ok-reserve.ensures.items c.push_reserved.ensures.items in
     record {
       walked =
-          rw (forth.1, pushed, c.passed.ensures) (walk_passes w.path.setting w.part w.tally w.path.news
-          c.args.frame (frames_of w) c.is_played.ensures forth.0
-          (omega (arith, c.requires.some, c.requires.kept.processors)) c.requires.kept.walked);
+          rw (forth.1, pushed, c.passed.ensures) (
+            record {
+              walked =
+                  done_over w.path.setting w.part (schedule_of w.path.news) w.path.news c.args.frame.next
+                  w.tally.ends c.is_played.ensures forth.0 was.0.walked;
+              over =
+                  over_next w.path.setting w.path.news c.args.frame.next c.args.frame.is_over forth.0
+                  was.0.over;
+              within = omega (arith, c.requires.some, c.requires.kept.processors);
+            },
+            record { comes = was.1.comes; within = was.1.within; reached = was.1.reached },
+            was.2,
+          );
       memo = rw same c.requires.kept.memo;
       way = rw forth.1 c.requires.kept.way;
       processors = c.requires.kept.processors ∙ ap (λ (g : Setting). length g.scripts) (sym same);
@@ -46,11 +60,7 @@ returns-then-not-branch-clause-less o c =
     (ap (λ (f : Level). f.next) c.passed.ensures))
 
 pub returns-then-not-branch-clause-same : goal.returns-then-not-branch-clause-same
-returns-then-not-branch-clause-same o c = (
-  forth_setting _ _ _ _ c.in_ok-forward.ensures.ok,
-  refl,
-  refl,
-)
+returns-then-not-branch-clause-same o c = (forth_setting _ _ _ _ c.in_ok-forward.ensures.ok, refl, refl)
 
 pub come_to-requires-clause-coming : goal.come_to-requires-clause-coming
 come_to-requires-clause-coming o c =
@@ -61,6 +71,8 @@ come_to-requires-clause-coming o c =
     let led = walk_leads w.path.setting w.part w.tally w.path.news _ c.args.frame (frames_of w) forth.0
     c.is_played.ensures forth.1 forth.2 (omega (arith, c.requires.some, c.requires.kept.processors)) refl
     c.requires.kept.walked in
+    let latest : c.latest.result.now ≡ record_of_call w.path.setting w.path.news c.args.frame.next forth.0 =
+    c.latest.ensures w.path.news _ (c.records.ensures ∙ ap (λ (x : PathValue). x.news) forth.3) in
     record {
       walked = rw forth.3 led.0;
       on = rw forth.3 led.1;
@@ -69,10 +81,9 @@ come_to-requires-clause-coming o c =
           rw same (memo_extended w.path.setting w.tally.ends w.memo c.go_on.new.self c.go_on.ensures.same
           c.go_on.ensures.kept c.requires.kept.memo);
       way =
-          way_on w.path c.forward.new.self c.args.frame.next c.latest.result.now w.memo c.go_on.new.self
-          w.tally.ends forth c.requires.kept.memo
-          (λ before r is. c.latest.ensures before r (c.records.ensures ∙ is)) c.requires.kept.way
-          c.in_ok-go_on.ensures.ok;
+          rw (forth.3, ← latest) (c.in_ok-go_on.ensures.ok w.path.setting w.path.news c.requires.kept.way
+          (λ set. rw (latest, event_kept) (call_leaves w.path.setting w.path.news c.args.frame.next forth.0
+          (c.requires.kept.memo.mergeable set) forth.1)));
       processors = c.requires.kept.processors ∙ ap (λ (g : Setting). length g.scripts) (sym same);
       few = c.requires.kept.few;
       short = short_on w.path c.forward.new.self c.args.frame.next forth;
@@ -80,35 +91,23 @@ come_to-requires-clause-coming o c =
 
 pub latest-requires : goal.latest-requires
 latest-requires o c =
-    let w = c.args.self.now in
-    omega (
-      arith,
-      some_news w.path c.forward.new.self c.args.frame.next
-          (rw c.if-not-branch.false at c.in_ok-forward.ensures.ok),
-      ap length c.records.ensures,
-    )
+    let forth = rw c.if-not-branch.false at c.in_ok-forward.ensures.ok in
+    omega (arith, some_news _ c.forward.new.self c.args.frame.next forth, ap length c.records.ensures)
 
 pub returns-clause-less : goal.returns-clause-less
 returns-clause-less o c =
-    let w = c.args.self.now in
     let same = forth_setting _ _ _ _ c.in_ok-forward.ensures.ok in
     let pushed = frames_pushed _ _ _ _ c.in_ok-reserve.ensures.items c.push_reserved-2.ensures.items in
-    left_led w.processors w.path.setting c.forward.new.self.setting (frames_of w)
-    (reverse c.push_reserved-2.new.self.items) c.args.frame c.led_on.result _ same pushed c.requires.some
-    (ap (λ (f : Level). f.next) c.led_on.ensures) c.in_ok-come_to.ensures.less
+    left_led c.args.self.now.processors _ _ (frames_of c.args.self.now) _ c.args.frame c.led_on.result _ same
+    pushed c.requires.some (ap (λ (f : Level). f.next) c.led_on.ensures) c.in_ok-come_to.ensures.less
 
 pub returns-clause-same : goal.returns-clause-same
 returns-clause-same o c =
-    let same = c.in_ok-come_to.ensures.same in (
-      same.0 ∙ forth_setting _ _ _ _ c.in_ok-forward.ensures.ok,
-      same.1,
-      same.2,
-    )
+    let same = c.in_ok-come_to.ensures.same in
+    (same.0 ∙ forth_setting _ _ _ _ c.in_ok-forward.ensures.ok, same.1, same.2)
 
 pub go_on-requires : goal.go_on-requires
-go_on-requires o c =
-    let w = c.args.self.now in
-    (w.path.setting, w.path.news, c.requires.kept.way)
+go_on-requires o c = (c.args.self.now.path.setting, c.args.self.now.path.news, c.requires.kept.way)
 
 pub returns-in_err-forward-clause-err : goal.returns-in_err-forward-clause-err
 returns-in_err-forward-clause-err o c =

@@ -1,7 +1,7 @@
 -- The schedule that ends here is a further one.
 use Rattle.std.proofs.Common.{arith, inl, inr}
 use Rattle.std.proofs.lemmas.Bool.{eqb-true}
-use Rattle.hp_explore.proofs.Walking.{halted_here}
+use Rattle.hp_explore.proofs.Machines.{halted_here}
 use Rattle.hp_explore.proofs.walk.Walk.is_full.Goals as goal
 
 pub returns-clause-full : goal.returns-clause-full

@@ -1,9 +1,11 @@
 -- No call was made.
-use Rattle.std.proofs.Common.{length, ap, sym, arith}
+use Rattle.std.proofs.Common.{length, ap, sym, arith, List}
 use Rattle.hp_schedules.specs.Notes.{TallyValue}
 use Rattle.hp_explore.specs.Paths.{PathValue}
-use Rattle.hp_explore.proofs.Framing.{on_begun, walk_begun}
 use Rattle.hp_explore.proofs.walk.Walk.start.Goals as goal
+use Rattle.hp_units.specs.declared.replies.Record.{Record}
+use Rattle.hp_states.proofs.Rooms.{done_begins}
+use Rattle.hp_schedules.specs.Schedules.{schedule_of}
 
 pub returns-clause-coming : goal.returns-clause-coming
 returns-clause-coming c =
@@ -13,8 +15,8 @@ returns-clause-coming c =
     let none = ap (λ (t : TallyValue). t.ends) c.new-tally.ensures in
     let begun = ap (λ (q : PathValue). q.news) c.in_ok-path.ensures in
     record {
-      walked = walk_begun p c.args.part ends begun none;
-      on = on_begun p c.args.part begun;
+      walked = rw (begun, none) (done_begins p.setting c.args.part);
+      on = λ more. absurd (omega (arith, more, ap (λ (h : List Record). length (schedule_of h)) begun));
       below = rw c.new.ensures.items begun;
       memo = rw c.in_ok-path.ensures (c.in_ok-memo.ensures.memo ends);
       way = rw c.in_ok-path.ensures c.in_ok-memo.ensures.way;
