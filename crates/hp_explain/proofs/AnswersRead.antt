@@ -1,7 +1,7 @@
 -- Answers that are read line by line.
-use Rattle.std.proofs.Common.{◌≡◌, ℕ, suc, ◌+◌, ◌-◌, ◌<◌, ◌≤◌, List, [], ◌∷◌, ◌++◌, Bor, length, get_or, map, take, drop, ap, sym, ◌∙◌, arith, append_assoc, length-append, add-zero, zero-add, length-drop}
+use Rattle.std.proofs.Common.{◌≡◌, ℕ, suc, ◌+◌, ◌<◌, ◌≤◌, List, [], ◌∷◌, ◌++◌, Bor, length, get_or, map, take, drop, ap, arith, append_assoc, length-append, add-zero, length-drop}
 use Rattle.std.proofs.lemmas.List.{append-nil, drop-drop, drop-map, length-map, length-take-le, map-append, map_more, take-map}
-use Rattle.hp_explain.specs.Answers.{AreAllUntimed, AreUntimed, IsPushed, IsScriptAt, answer_text, run_lines, script_lines, seen_lines, untimed, without_times}
+use Rattle.hp_explain.specs.Answers.{AreAllUntimed, AreUntimed, IsPushed, IsScriptAt, run_lines, script_lines, seen_lines}
 use Rattle.hp_explain.specs.declared.observed.ObservedLine.{ObservedLine}
 
 -- what a processor's answers keep
@@ -53,15 +53,7 @@ pub script_more : {A : Type 0} (texts : List (Bor (List ℕ))) (scripts : List (
     → AreReadUpTo texts scripts (cpu + 1) (place + (count + 1)) new
 script_more {A} texts scripts cpu place count old new one script within this size read same so_far = record {
   sizes =
-      rw (
-        same,
-        map-append,
-        so_far.sizes,
-        map_more (λ (z : List A). length z) scripts cpu script within,
-        ← this,
-        ← size,
-        read.1,
-      );
+      rw (same, map-append, so_far.sizes, map_more length scripts cpu script within, ← this, ← size, read.1);
   below = omega (arith, within);
   room =
       omega (arith, read.1, so_far.room, simp (length-append, length-map, length-drop) at (ap length read.0));

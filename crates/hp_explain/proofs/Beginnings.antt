@@ -1,14 +1,13 @@
 -- Explained beginnings: with one call more, and which calls and places no explained schedule has.
-use Rattle.std.proofs.Common.{◌≡◌, ℕ, ◌≤◌, zero, suc, Bool, true, false, eqb, List, [], ◌∷◌, ◌++◌, length, Option, Some, None, slice_get, refl, ap, sym, subst, ◌∙◌, arith, inl, inr}
-use Rattle.std.specs.Prelude.{◌⊎◌, fold}
+use Rattle.std.proofs.Common.{◌≡◌, ℕ, ◌≤◌, List, [], ◌∷◌, ◌++◌, length, Option, Some, None, slice_get, refl, ap, sym, ◌∙◌, arith, inl, inr}
+use Rattle.std.specs.Prelude.{◌⊎◌}
 use Rattle.std.proofs.lemmas.Bool.{cases_eq}
-use Rattle.std.proofs.lemmas.List.{append-nil, append_assoc, length-append, length_push}
+use Rattle.std.proofs.lemmas.List.{append-nil, append_assoc, length-append}
 use Rattle.std.proofs.lemmas.Option.{none-some, same_Some}
 use Rattle.hp_units.specs.declared.events.Event.{Event}
 use Rattle.hp_units.specs.declared.replies.Record.{Record}
-use Rattle.hp_schedules.specs.LineAnswers.{Grow, IsAnswered, answers_at}
-use Rattle.hp_schedules.specs.Orders.{Extends}
-use Rattle.hp_schedules.specs.Schedules.{Setting, next_call, play_one, plays, record_of_call, schedule_of}
+use Rattle.hp_schedules.specs.LineAnswers.{IsAnswered, answers_at}
+use Rattle.hp_schedules.specs.Schedules.{Setting, next_call, plays, record_of_call}
 use Rattle.hp_schedules.specs.declared.line_answers.FinishedLine.{FinishedLine}
 use Rattle.hp_laws.proofs.Lists.{get_end, get_push_cases}
 use Rattle.hp_schedules.proofs.Counting.{get_longer}
@@ -50,74 +49,53 @@ pub sought_explained : (g : Setting) (seen : List (List ObservedLine)) (room : �
 sought_explained g seen room longest s (inl order) = order.begun
 sought_explained g seen room longest s (inr longer) = longer.0
 
-pub run_skipped : (g : Setting) (seen : List (List ObservedLine)) (room : ℕ) (longest schedule : List ℕ)
-    (news : List Record) (cpu : ℕ)
-    → plays g schedule ≡ Some news → (MayRun g seen news cpu → ⊥)
-    → MayBeSkipped (aim_of g seen room longest) (schedule ++ cpu ∷ [])
-run_skipped g seen room longest schedule news cpu played waits = (
-  λ s sought on. waits (runs s (sought_explained g seen room longest s sought) on),
-  λ whole. whole,
-)
-  where
-    runs : (s : List ℕ) → IsExplained g seen s → Extends s (schedule ++ cpu ∷ []) → MayRun g seen news cpu
-    runs s explained on =
-        let past = called g schedule on.0 cpu news explained.news played
-        (rw (← append_assoc schedule (cpu ∷ []) on.0, ← on.1) explained.played) in
-        let later = grown g on.0 (news ++ past.r ∷ []) explained.news past.on in
-        rw (← past.whose)
-        (explained.timed news past.r later.0 (later.1 ∙ append_assoc news (past.r ∷ []) later.0))
-
 -- the history has no room for one call more
 pub full_skipped : (g : Setting) (seen : List (List ObservedLine)) (room : ℕ) (longest schedule : List ℕ)
     (cpu : ℕ)
     → room ≡ calls_left g → room ≤ length schedule
     → MayBeSkipped (aim_of g seen room longest) (schedule ++ cpu ∷ [])
 full_skipped g seen room longest schedule cpu is full = (
-  λ s sought on. past s (sought_explained g seen room longest s sought) on,
+  λ s sought on.
+      let few = (sought_explained g seen room longest s sought).few in
+      omega (arith, few, is, full, simp length-append at (ap length on.1)),
   λ whole. whole,
 )
-  where
-    past : (s : List ℕ) → IsExplained g seen s → Extends s (schedule ++ cpu ∷ []) → ⊥
-    past s explained on = omega (arith, explained.few, is, full, simp length-append at (ap length on.1))
 
 -- ---- the answer to the latest call
 
--- if the line that the call finished was answered as it was seen, so are all
-pub seen_more : (g : Setting) (seen : List (List ObservedLine)) (h : List Record) (r : Record)
-    (f : Option FinishedLine)
-    → IsAnswered (answers_at g r.cpu h) f (answers_at g r.cpu (h ++ r ∷ []))
-    → ((line : FinishedLine) → f ≡ Some line → HasSeen seen r.cpu line.line line.answer)
-    → AreAsSeen g seen h → AreAsSeen g seen (h ++ r ∷ [])
-seen_more g seen h r f answered own all cpu line answer is =
-    elim (cases_eq r.cpu cpu) [
-      | inl same ↦
-          subst (λ (c : ℕ). HasSeen seen c line answer) same
-          (by_line f answered own
-          (subst (λ (c : ℕ). slice_get (answers_at g c (h ++ r ∷ [])) line ≡ Some answer) (sym same) is))
-      | inr other ↦ all cpu line answer (rw (← others_stay g cpu h r other) is)
-    ]
-  where
-    by_line : (f : Option FinishedLine)
-        → IsAnswered (answers_at g r.cpu h) f (answers_at g r.cpu (h ++ r ∷ []))
-        → ((line : FinishedLine) → f ≡ Some line → HasSeen seen r.cpu line.line line.answer)
-        → slice_get (answers_at g r.cpu (h ++ r ∷ [])) line ≡ Some answer → HasSeen seen r.cpu line answer
-    by_line None same own is = all r.cpu line answer (rw (← same) is)
-    by_line (Some f) new own is =
-        elim (get_push_cases (answers_at g r.cpu h) f.answer answer line (rw (← new.1) is)) [
-          | inl before ↦ all r.cpu line answer before
-          | inr last ↦ rw (← last.1, last.0, ← new.0) (own f refl)
-        ]
+module _ (g : Setting) (seen : List (List ObservedLine)) where
+  -- if the line that the call finished was answered as it was seen, so are all
+  seen_more : (h : List Record) (r : Record) (f : Option FinishedLine)
+      → IsAnswered (answers_at g r.cpu h) f (answers_at g r.cpu (h ++ r ∷ []))
+      → ((line : FinishedLine) → f ≡ Some line → HasSeen seen r.cpu line.line line.answer)
+      → AreAsSeen g seen h → AreAsSeen g seen (h ++ r ∷ [])
+  seen_more h r f answered own all cpu line answer is =
+      elim (cases_eq r.cpu cpu) [
+        | inl same ↦ rw (← same) (by_line f answered own (rw (← same) at is))
+        | inr other ↦ all cpu line answer (rw (← others_stay g cpu h r other) is)
+      ]
+    where
+      by_line : (f : Option FinishedLine)
+          → IsAnswered (answers_at g r.cpu h) f (answers_at g r.cpu (h ++ r ∷ []))
+          → ((line : FinishedLine) → f ≡ Some line → HasSeen seen r.cpu line.line line.answer)
+          → slice_get (answers_at g r.cpu (h ++ r ∷ [])) line ≡ Some answer → HasSeen seen r.cpu line answer
+      by_line None same own is = all r.cpu line answer (rw (← same) is)
+      by_line (Some f) new own is =
+          elim (get_push_cases (answers_at g r.cpu h) f.answer answer line (rw (← new.1) is)) [
+            | inl before ↦ all r.cpu line answer before
+            | inr last ↦ rw (← last.1, last.0, ← new.0) (own f refl)
+          ]
 
-pub timed_more : (g : Setting) (seen : List (List ObservedLine)) (h : List Record) (r : Record)
-    → MayRun g seen h r.cpu → AreInTime g seen h → AreInTime g seen (h ++ r ∷ [])
-timed_more g seen h r runs all before s later is = by_place (split_in h (r ∷ []) before later s is)
-  where
-    by_place : ((rest : List Record) × (h ≡ before ++ s ∷ rest))
-        ⊎ ((mid : List Record) × (before ≡ h ++ mid) × (r ∷ [] ≡ mid ++ s ∷ later))
-        → MayRun g seen before s.cpu
-    by_place (inl within) = all before s within.0 within.1
-    by_place (inr ([], here, end)) = let last : r ≡ s = cc in rw (here, append-nil, ← last) runs
-    by_place (inr (x ∷ mid, here, end)) = absurd (omega (arith, simp length-append at (ap length end)))
+  timed_more : (h : List Record) (r : Record) → MayRun g seen h r.cpu → AreInTime g seen h
+      → AreInTime g seen (h ++ r ∷ [])
+  timed_more h r runs all before s later is = by_place (split_in h (r ∷ []) before later s is)
+    where
+      by_place : ((rest : List Record) × (h ≡ before ++ s ∷ rest))
+          ⊎ ((mid : List Record) × (before ≡ h ++ mid) × (r ∷ [] ≡ mid ++ s ∷ later))
+          → MayRun g seen before s.cpu
+      by_place (inl within) = all before s within.0 within.1
+      by_place (inr ([], here, end)) = let last : r ≡ s = cc in rw (here, append-nil, ← last) runs
+      by_place (inr (x ∷ mid, here, end)) = absurd (omega (arith, simp length-append at (ap length end)))
 
 -- the place after a call that was tried
 pub record IsReached (g : Setting) (seen : List (List ObservedLine)) (news : List Record) : Type 0 where
@@ -128,94 +106,89 @@ pub record IsReached (g : Setting) (seen : List (List ObservedLine)) (news : Lis
   pub timed : AreInTime g seen h
   pub runs : MayRun g seen h r.cpu
 
-pub reached : (g : Setting) (seen : List (List ObservedLine)) (room : ℕ) (longest schedule : List ℕ)
-    (news : List Record)
-    → plays g schedule ≡ Some news → (t : IsTried (aim_of g seen room longest) schedule)
-    → (e : IsReached g seen news) × (e.r.cpu ≡ t.cpu)
-reached g seen room longest schedule news played t =
-    let one = called g t.before [] t.cpu t.from.0.news news t.from.0.played (rw (← t.longer) played) in
-    let tried = t.tried.0 in
-    let at : tried.0 ≡ t.from.0.news =
-    same_Some tried.0 t.from.0.news (sym tried.1 ∙ t.from.0.played) in (
-      record {
-        h = t.from.0.news;
-        r = one.r;
-        is = sym (same_Some _ news one.on);
-        answered = t.from.0.answered;
-        timed = t.from.0.timed;
-        runs = rw (one.whose, ← at) tried.2;
-      },
-      one.whose,
-    )
-
--- it is explained if the line that the call finished was answered as it was seen
-pub place_explained : (g : Setting) (seen : List (List ObservedLine)) (schedule : List ℕ)
-    (news : List Record) (f : Option FinishedLine)
-    → plays g schedule ≡ Some news → length schedule ≤ calls_left g → (e : IsReached g seen news)
-    → ((before : List Record) (r : Record) → news ≡ before ++ r ∷ []
-    → IsAnswered (answers_at g r.cpu before) f (answers_at g r.cpu news))
-    → ((line : FinishedLine) → f ≡ Some line → HasSeen seen e.r.cpu line.line line.answer)
-    → IsExplained g seen schedule
-place_explained g seen schedule news f played few e answered own = record {
-  news = news;
-  played = played;
-  few = few;
-  answered =
-      rw e.is
-      (seen_more g seen e.h e.r f
-      (subst (λ (x : List Record). IsAnswered (answers_at g e.r.cpu e.h) f (answers_at g e.r.cpu x)) e.is
-      (answered e.h e.r e.is)) own e.answered);
-  timed = rw e.is (timed_more g seen e.h e.r e.runs e.timed);
-}
-
--- and if not, no explained schedule continues from it
-pub place_skipped : (g : Setting) (seen : List (List ObservedLine)) (room : ℕ) (longest schedule : List ℕ)
-    (news : List Record) (line : FinishedLine)
-    → plays g schedule ≡ Some news → (e : IsReached g seen news)
-    → IsAnswered (answers_at g e.r.cpu e.h) (Some line) (answers_at g e.r.cpu news)
-    → (HasSeen seen e.r.cpu line.line line.answer → ⊥)
-    → MayBeSkipped (aim_of g seen room longest) schedule
-place_skipped g seen room longest schedule news line played e answered other = (
-  λ s sought on. other (shown s (sought_explained g seen room longest s sought) on),
-  λ whole. whole,
-)
-  where
-    shown : (s : List ℕ) → IsExplained g seen s → Extends s schedule
-        → HasSeen seen e.r.cpu line.line line.answer
-    shown s explained on =
-        let more = continued g schedule on.0 news explained.news played (rw (← on.1) explained.played) in
-        let later = grow_at g e.r.cpu news more.0 in
-        explained.answered e.r.cpu line.line line.answer
-        (rw (more.1, later.1, answered.1, answered.0)
-        (get_longer (answers_at g e.r.cpu e.h ++ line.answer ∷ []) later.0 (length (answers_at g e.r.cpu e.h))
-        line.answer (get_end (answers_at g e.r.cpu e.h) line.answer)))
-
 -- ---- a place that is asked
 
--- the answer is tested by the latest call's processor
-pub asked_explained : (g : Setting) (seen : List (List ObservedLine)) (room : ℕ) (longest schedule : List ℕ)
-    (news : List Record) (f : Option FinishedLine)
-    → plays g schedule ≡ Some news → (t : IsTried (aim_of g seen room longest) schedule)
-    → ((before : List Record) (r : Record) → news ≡ before ++ r ∷ []
-    → IsAnswered (answers_at g r.cpu before) f (answers_at g r.cpu news))
-    → ((line : FinishedLine) → f ≡ Some line → HasSeen seen t.cpu line.line line.answer)
-    → (aim_of g seen room longest).admits schedule
-asked_explained g seen room longest schedule news f played t answered own =
-    let e = reached g seen room longest schedule news played t in (
-      place_explained g seen schedule news f played
-          (omega (arith, t.tried.1, t.from.1, simp length-append at (ap length t.longer))) e.0 answered
-          (λ line same. rw e.1 (own line same)),
-      t.from.1,
-    )
+module _ (g : Setting) (seen : List (List ObservedLine)) (room : ℕ) (longest schedule : List ℕ)
+    (news : List Record) (played : plays g schedule ≡ Some news) where
+  -- a line that may not run yet makes no call
+  pub run_skipped : (cpu : ℕ) → (MayRun g seen news cpu → ⊥)
+      → MayBeSkipped (aim_of g seen room longest) (schedule ++ cpu ∷ [])
+  run_skipped cpu waits = (
+    λ s sought on.
+        let e = sought_explained g seen room longest s sought in
+        let past = called g schedule on.0 cpu news e.news played
+        (rw (← append_assoc schedule (cpu ∷ []) on.0, ← on.1) e.played) in
+        let later = grown g on.0 (news ++ past.r ∷ []) e.news past.on in
+        waits (rw (← past.whose)
+        (e.timed news past.r later.0 (later.1 ∙ append_assoc news (past.r ∷ []) later.0))),
+    λ whole. whole,
+  )
 
-pub asked_skipped : (g : Setting) (seen : List (List ObservedLine)) (room : ℕ) (longest schedule : List ℕ)
-    (news : List Record) (line : FinishedLine)
-    → plays g schedule ≡ Some news → (t : IsTried (aim_of g seen room longest) schedule)
-    → ((before : List Record) (r : Record) → news ≡ before ++ r ∷ []
-    → IsAnswered (answers_at g r.cpu before) (Some line) (answers_at g r.cpu news))
-    → (HasSeen seen t.cpu line.line line.answer → ⊥)
-    → MayBeSkipped (aim_of g seen room longest) schedule
-asked_skipped g seen room longest schedule news line played t answered other =
-    let e = reached g seen room longest schedule news played t in
-    place_skipped g seen room longest schedule news line played e.0 (answered e.0.h e.0.r e.0.is)
-    (λ has. other (rw e.1 at has))
+  reached : (t : IsTried (aim_of g seen room longest) schedule)
+      → (e : IsReached g seen news) × (e.r.cpu ≡ t.cpu)
+  reached t =
+      let one = called g t.before [] t.cpu t.from.0.news news t.from.0.played (rw (← t.longer) played) in
+      let at = same_Some t.tried.0.0 t.from.0.news (sym t.tried.0.1 ∙ t.from.0.played) in (
+        record {
+          h = t.from.0.news;
+          r = one.r;
+          is = sym (same_Some _ news one.on);
+          answered = t.from.0.answered;
+          timed = t.from.0.timed;
+          runs = rw (one.whose, ← at) t.tried.0.2;
+        },
+        one.whose,
+      )
+
+  -- the place is explained if the line that the call finished was answered as it was seen
+  place_explained : (f : Option FinishedLine) → length schedule ≤ calls_left g → (e : IsReached g seen news)
+      → ((before : List Record) (r : Record) → news ≡ before ++ r ∷ []
+      → IsAnswered (answers_at g r.cpu before) f (answers_at g r.cpu news))
+      → ((line : FinishedLine) → f ≡ Some line → HasSeen seen e.r.cpu line.line line.answer)
+      → IsExplained g seen schedule
+  place_explained f few e answered own = record {
+    news = news;
+    played = played;
+    few = few;
+    answered = rw e.is (seen_more g seen e.h e.r f (rw e.is at (answered e.h e.r e.is)) own e.answered);
+    timed = rw e.is (timed_more g seen e.h e.r e.runs e.timed);
+  }
+
+  -- and if not, no explained schedule continues from it
+  place_skipped : (line : FinishedLine) → (e : IsReached g seen news)
+      → IsAnswered (answers_at g e.r.cpu e.h) (Some line) (answers_at g e.r.cpu news)
+      → (HasSeen seen e.r.cpu line.line line.answer → ⊥)
+      → MayBeSkipped (aim_of g seen room longest) schedule
+  place_skipped line e answered other = (
+    λ s sought on.
+        let x = sought_explained g seen room longest s sought in
+        let more = continued g schedule on.0 news x.news played (rw (← on.1) x.played) in
+        let later = grow_at g e.r.cpu news more.0 in
+        other (x.answered e.r.cpu line.line line.answer
+        (rw (more.1, later.1, answered.1, answered.0)
+        (get_longer (answers_at g e.r.cpu e.h ++ line.answer ∷ []) later.0 (length (answers_at g e.r.cpu e.h))
+        line.answer (get_end (answers_at g e.r.cpu e.h) line.answer)))),
+    λ whole. whole,
+  )
+
+  -- the answer is tested by the latest call's processor
+  pub asked_explained : (f : Option FinishedLine) → (t : IsTried (aim_of g seen room longest) schedule)
+      → ((before : List Record) (r : Record) → news ≡ before ++ r ∷ []
+      → IsAnswered (answers_at g r.cpu before) f (answers_at g r.cpu news))
+      → ((line : FinishedLine) → f ≡ Some line → HasSeen seen t.cpu line.line line.answer)
+      → (aim_of g seen room longest).admits schedule
+  asked_explained f t answered own =
+      let e = reached t in (
+        place_explained f (omega (arith, t.tried.1, t.from.1, simp length-append at (ap length t.longer))) e.0
+            answered (λ line same. rw e.1 (own line same)),
+        t.from.1,
+      )
+
+  pub asked_skipped : (line : FinishedLine) → (t : IsTried (aim_of g seen room longest) schedule)
+      → ((before : List Record) (r : Record) → news ≡ before ++ r ∷ []
+      → IsAnswered (answers_at g r.cpu before) (Some line) (answers_at g r.cpu news))
+      → (HasSeen seen t.cpu line.line line.answer → ⊥)
+      → MayBeSkipped (aim_of g seen room longest) schedule
+  asked_skipped line t answered other =
+      let e = reached t in
+      place_skipped line e.0 (answered e.0.h e.0.r e.0.is) (λ has. other (rw e.1 at has))

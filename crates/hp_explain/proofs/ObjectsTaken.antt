@@ -1,9 +1,9 @@
 -- Answers that are taken from one object after another.
-use Rattle.std.proofs.Common.{◌≡◌, ◌⊎◌, ℕ, zero, suc, ◌+◌, ◌<◌, ◌≤◌, ◌==◌, Bool, true, false, cond, not, List, [], ◌∷◌, ◌++◌, Bor, Some, Result, Ok, Err, IfOk, filter, length, get_or, drop, map, take, slice_get, slice_set, add-zero, refl, ap, sym, subst, ◌∙◌, arith, inl, inr}
+use Rattle.std.proofs.Common.{◌≡◌, ℕ, ◌+◌, ◌<◌, ◌≤◌, ◌==◌, Bool, true, false, cond, List, [], ◌∷◌, ◌++◌, Bor, Result, Ok, Err, IfOk, length, get_or, drop, map, take, slice_set, add-zero, refl, ap, sym, arith, inl, inr}
 use Rattle.std.proofs.lemmas.Bool.{eq-eqb, ne_eqb}
 use Rattle.std.proofs.lemmas.List.{append-nil, drop-drop, drop-set-lt, get_or-drop, length-map, length-set, map-append, map_more, take_all}
 use Rattle.std.proofs.lemmas.List.Elements.{filter-append}
-use Rattle.std.proofs.lemmas.Option.{same_Some, slice_get_within}
+use Rattle.std.proofs.lemmas.Option.{slice_get_within}
 use Rattle.std.proofs.Math.Dec.{eqb-suc-zero}
 use Rattle.hp_laws.proofs.Lists.{get_push_cases}
 use Rattle.hp_schedules.proofs.Counts.{get_set_cases}
@@ -18,9 +18,8 @@ use Rattle.hp_explain.specs.declared.observed.ObservedLine.{ObservedLine}
 pub objects_more : (texts : List (List ℕ)) (objects : List SeenObject) (text : List ℕ) (o : SeenObject)
     → AreObjects texts objects → IsObjectLine text o → AreObjects (texts ++ text ∷ []) (objects ++ o ∷ [])
 objects_more [] [] text o all here = (here, tt)
-objects_more [] (x ∷ objects) text o all here = absurd all
-objects_more (t ∷ texts) [] text o all here = absurd all
 objects_more (t ∷ texts) (x ∷ objects) text o all here = (all.0, objects_more texts objects text o all.1 here)
+objects_more texts objects text o all here = absurd all
 
 of_cpu : (cpu : ℕ) (objects : List SeenObject) (o : SeenObject) (is : Bool) → (o.cpu == cpu) ≡ is
     → told_of cpu (objects ++ o ∷ [])
@@ -67,13 +66,8 @@ pub taken_empty : (rest : List (Bor (List ℕ))) (i count : ℕ) (d : Bor (List 
 taken_empty rest i count d seen within empty so_far = record {
   objects = so_far.objects;
   lines =
-      rw (
-        take_text rest i d within,
-        filter-append,
-        ← empty_told (get_or rest i d).now,
-        empty,
-        append-nil,
-      ) so_far.lines;
+      rw (take_text rest i d within, filter-append, ← empty_told (get_or rest i d).now, empty, append-nil)
+      so_far.lines;
   size = so_far.size;
   told = so_far.told;
 }
@@ -111,14 +105,7 @@ pub filled_more : {A : Type 0} (scripts : List (List A)) (old : List (List Obser
 filled_more {A} scripts old cpu seen observed new d one after script same within this size here pushed so_far
     = record {
       sizes =
-          rw (
-            pushed,
-            map-append,
-            so_far.sizes,
-            map_more (λ (z : List A). length z) scripts cpu script within,
-            ← this,
-            size,
-          );
+          rw (pushed, map-append, so_far.sizes, map_more length scripts cpu script within, ← this, size);
       made =
           rw (pushed, so_far.made, map_more filled old cpu d (omega (arith, same, within)), here, own);
       rest =

@@ -1,24 +1,19 @@
 -- What a search for an order found.
-use Rattle.std.proofs.Common.{◌≡◌, ℕ, ◌+◌, ◌<◌, ◌≤◌, false, true, List, [], ◌∷◌, ◌++◌, length, Option, Some, None, slice_get, refl, ap, sym, subst, ◌∙◌, arith, inl, inr}
-use Rattle.std.specs.Option.{option_map_or}
-use Rattle.std.specs.Prelude.{fold}
+use Rattle.std.proofs.Common.{◌≡◌, ℕ, ◌+◌, ◌<◌, ◌≤◌, false, List, [], ◌∷◌, ◌++◌, length, Option, Some, None, refl, ap, sym, ◌∙◌, arith, inl, inr}
 use Rattle.std.proofs.lemmas.Bool.{lt-leb, or_from}
 use Rattle.std.proofs.lemmas.List.{length-append, length_push}
 use Rattle.hp_units.specs.declared.events.Event.{Event}
-use Rattle.hp_schedules.proofs.Plays.{from_news, plays_one, stays_none}
+use Rattle.hp_schedules.proofs.Plays.{from_news, stays_none}
 use Rattle.hp_states.specs.Rooms.{is_full_after}
-use Rattle.std.specs.Prelude.{◌⊎◌}
 use Rattle.std.proofs.lemmas.Bool.{cases_lt, false≢true}
 use Rattle.std.proofs.lemmas.Option.{none-some, same_Some}
 use Rattle.hp_units.specs.declared.replies.Record.{Record}
-use Rattle.hp_schedules.specs.LineAnswers.{answers_at, answers_in}
-use Rattle.hp_schedules.specs.Schedules.{Setting, next_call, play_one, plays, record_of_call, schedule_of}
-use Rattle.hp_schedules.specs.declared.line_answers.LineAnswer.{LineAnswer}
-use Rattle.hp_schedules.specs.declared.scripts.Step.{Step}
+use Rattle.hp_schedules.specs.LineAnswers.{answers_at}
+use Rattle.hp_schedules.specs.Schedules.{Setting, next_call, plays, record_of_call}
 use Rattle.hp_schedules.proofs.LineAnswers.{none_begun}
 use Rattle.hp_explore.specs.Aims.{IsFirstSought, IsSearchCause}
 use Rattle.hp_explore.specs.declared.fault.FindFault.{FindFault}
-use Rattle.hp_explore.specs.declared.fault.FindFault.TheVariants.{HistoryFull, OutOfMemory, Stopped}
+use Rattle.hp_explore.specs.declared.fault.FindFault.TheVariants.{HistoryFull}
 use Rattle.hp_explain.specs.Explainers.{aim_of}
 use Rattle.hp_explain.specs.Explaining.{Explains, IsExplainCause, IsExplained, calls_left}
 use Rattle.hp_explain.specs.declared.observed.ObservedLine.{ObservedLine}
@@ -28,12 +23,7 @@ use Rattle.hp_explain.specs.declared.observed.ObservedLine.{ObservedLine}
 -- no line is answered
 none_answered : (g : Setting) (cpu : ℕ) → answers_at g cpu [] ≡ []
 unfolding answers_at
-none_answered g cpu = by_script (slice_get g.scripts cpu)
-  where
-    by_script : (o : Option (List Step))
-        → option_map_or (λ lines. answers_in g.layout.cpus lines []) o [] ≡ []
-    by_script None = refl
-    by_script (Some lines) = none_begun g.layout.cpus lines
+none_answered g cpu = grind (arith, none_begun)
 
 pub start_explained : (g : Setting) (seen : List (List ObservedLine)) → IsExplained g seen []
 unfolding plays

@@ -1,8 +1,8 @@
 -- Scripts whose lines are answered in their order.
-use Rattle.std.proofs.Common.{◌≡◌, ℕ, zero, suc, ◌+◌, ◌<◌, ◌≤◌, List, [], ◌∷◌, length, Some, None, slice_get, ap, sym, ◌∙◌, arith, inl, inr}
-use Rattle.std.specs.Prelude.{◌⊎◌, ◌↔◌}
+use Rattle.std.proofs.Common.{◌≡◌, ℕ, ◌<◌, ◌≤◌, List, length, Some, None, slice_get, arith, inl, inr}
+use Rattle.std.specs.Prelude.{◌↔◌}
 use Rattle.std.proofs.lemmas.Bool.{cases_lt}
-use Rattle.std.proofs.lemmas.Option.{none-some, same_Some, slice_get_within}
+use Rattle.std.proofs.lemmas.Option.{slice_get_cases, slice_get_within}
 use Rattle.hp_explain.specs.Explaining.{AreOverBefore, AreRising}
 use Rattle.hp_explain.specs.declared.observed.ObservedLine.{ObservedLine}
 
@@ -33,6 +33,4 @@ over_all lines count time all k one there early =
     omega (arith, slice_get_within lines k one there, all)
 
 pub get_none : (lines : List ObservedLine) (k : ℕ) → slice_get lines k ≡ None → length lines ≤ k
-get_none [] k none = omega arith
-get_none (x ∷ lines) zero none = absurd (none-some x (sym none))
-get_none (x ∷ lines) (suc k) none = omega (arith, get_none lines k none)
+get_none lines k none = grind (arith, slice_get_cases)

@@ -1,14 +1,10 @@
 -- Whether the line that a processor works on next may run.
-use Rattle.std.proofs.Common.{◌≡◌, ℕ, ◌+◌, ◌<◌, ◌≤◌, Bool, false, List, length, Option, Some, None, slice_get, refl, ap, sym, subst, ◌∙◌, arith, inl, inr}
-use Rattle.std.specs.Option.{option_and_then}
-use Rattle.std.specs.Prelude.{◌⊎◌, ◌↔◌, IsTrue}
-use Rattle.std.proofs.lemmas.Bool.{cases_lt, iff_false}
-use Rattle.std.proofs.lemmas.Option.{none-some, same_Some, slice_get_within}
-use Rattle.hp_laws.proofs.Lists.{get_some}
+use Rattle.std.proofs.Common.{◌≡◌, ℕ, ◌<◌, ◌≤◌, List, length, Some, slice_get, arith}
+use Rattle.std.proofs.lemmas.Option.{slice_get_within}
 use Rattle.hp_units.specs.declared.replies.Record.{Record}
 use Rattle.hp_schedules.specs.LineAnswers.{answers_at}
 use Rattle.hp_schedules.specs.Schedules.{Setting}
-use Rattle.hp_explain.specs.Explaining.{AreAllOverBefore, AreOverBefore, MayRun}
+use Rattle.hp_explain.specs.Explaining.{AreAllOverBefore, AreOverBefore}
 use Rattle.hp_explain.specs.declared.observed.ObservedLine.{ObservedLine}
 
 -- ---- the lines of the first processors

@@ -1,19 +1,17 @@
 -- Where processors stand: a call and its way back, and what it gave its line.
-use Rattle.std.proofs.Common.{◌≡◌, ℕ, ◌+◌, List, [], ◌∷◌, ◌++◌, true, length, take, Option, Some, None, slice_get, ap, sym, subst, ◌∙◌, arith, inl, inr}
-use Rattle.std.specs.Prelude.{◌⊎◌}
-use Rattle.std.proofs.lemmas.List.{length_push, map-append, same_from_push}
+use Rattle.std.proofs.Common.{◌≡◌, ℕ, ◌+◌, List, [], ◌∷◌, ◌++◌, true, take, Some, slice_get, ap, subst, ◌∙◌, inl, inr}
+use Rattle.std.proofs.lemmas.List.{length_push, map-append}
 use Rattle.hp_laws.proofs.Lists.{get_push_cases}
 use Rattle.hp_laws.proofs.Replays.{take_one}
 use Rattle.hp_units.specs.declared.replies.Record.{Record}
-use Rattle.hp_explore.proofs.Paths.{path_of}
-use Rattle.hp_explore.specs.Paths.{IsBack, IsForth, PathValue}
+use Rattle.hp_explore.specs.Paths.{IsForth, PathValue}
 use Rattle.hp_schedules.proofs.Plays.{caller}
 use Rattle.hp_schedules.specs.Schedules.{Setting, record_of_call, schedule_of}
 use Rattle.hp_explain.specs.Explaining.{MayRun}
 use Rattle.hp_explain.specs.Standings.{AreStandingsBelow, IsLatestAnswer, IsNext, IsNextAnswer, IsStanding}
 use Rattle.hp_explain.specs.declared.observed.ObservedLine.{ObservedLine}
 use Rattle.hp_explain.specs.declared.standing.Next.{Next}
-use Rattle.hp_explain.specs.declared.standing.Next.TheVariants.{Answered, Finished, GoesOn, HistoryFull, Waits}
+use Rattle.hp_explain.specs.declared.standing.Next.TheVariants.{Answered, GoesOn}
 use Rattle.hp_explain.specs.declared.standing.Standing.{Standing}
 
 -- what a call gave its line

@@ -1,5 +1,5 @@
 -- Times that are filled in from the last line on.
-use Rattle.std.proofs.Common.{◌≡◌, ℕ, zero, suc, ◌+◌, ◌<◌, ◌≤◌, List, [], ◌∷◌, ◌++◌, Some, drop, get_or, length, min, set, slice_get, take, refl, ap, sym, subst, ◌∙◌, arith, append_assoc}
+use Rattle.std.proofs.Common.{◌≡◌, ℕ, zero, suc, ◌+◌, ◌<◌, ◌≤◌, List, [], ◌∷◌, ◌++◌, Some, drop, get_or, length, min, set, slice_get, take, refl, sym, ◌∙◌, arith, append_assoc}
 use Rattle.std.proofs.lemmas.List.{append-nil, drop_all, drop_more, length-take-le, take_all, take_more}
 use Rattle.std.proofs.lemmas.Option.{none-some, same_Some}
 use Rattle.std.proofs.Math.Seq.{get_or-append_seam, set-append_seam}
@@ -41,7 +41,7 @@ pub record IsFilledFrom (old lines : List ObservedLine) (passed later : ℕ) : T
 
 pub fill_none : (old : List ObservedLine) → IsFilledFrom old old 0 18446744073709551615
 fill_none old =
-    let rest : drop (length old) old ≡ [] = drop_all (length old) old (omega arith) in record {
+    let rest = drop_all (length old) old (omega arith) in record {
       start = length old;
       place = omega arith;
       told = rw (take_all (length old) old (omega arith), rest, append-nil);

@@ -1,21 +1,18 @@
 -- What is told of answers: the order that explains them, or why there is none.
-use Rattle.std.proofs.Common.{◌≡◌, ℕ, false, true, List, length, map, ap, sym, subst, ◌∙◌}
+use Rattle.std.proofs.Common.{ℕ, List}
 use Rattle.hp_explore.specs.FindFaults.{find_fault_from}
 use Rattle.hp_explore.specs.declared.exploring.ExploreFault.{ExploreFault}
 use Rattle.hp_explore.specs.declared.exploring.ExploreFault.TheVariants.{HistoryFull, OutOfMemory}
 use Rattle.hp_scenario.specs.declared.lines.Line.{Line}
 use Rattle.hp_schedules.specs.Schedules.{Setting}
-use Rattle.hp_schedules.specs.declared.scripts.Step.{Step}
 use Rattle.hp_search.proofs.Known.{untold, untold_in}
 use Rattle.hp_search.specs.Faults.{IsToldAs}
 use Rattle.hp_search.specs.Prepared.{IsPrepared, setting_of}
 use Rattle.hp_search.specs.declared.forms.ScheduleForm.{ScheduleForm}
 use Rattle.hp_search.specs.declared.lab_fault.LabFault.{LabFault}
 use Rattle.hp_search.specs.declared.prepared.Prepared.{Prepared}
-use Rattle.hp_explain.specs.AnswerObjects.{AreObjectsOf}
-use Rattle.hp_explain.specs.Answers.{IsRunText, are_objects}
 use Rattle.hp_explain.specs.Explaining.{IsExplainCause, IsExplanation}
-use Rattle.hp_explain.specs.Telling.{AreAnswers, IsExplainFaultOf, IsExplainedOn, IsExplainingCause, IsExplanationTold}
+use Rattle.hp_explain.specs.Telling.{IsExplainFaultOf, IsExplainedOn, IsExplainingCause, IsExplanationTold}
 use Rattle.hp_explain.specs.declared.explain_fault.ExplainFault.TheVariants.{Lab}
 use Rattle.hp_explain.specs.declared.explaining.Explanation.{Explanation}
 use Rattle.hp_explain.specs.declared.explaining.Explanation.TheVariants as found

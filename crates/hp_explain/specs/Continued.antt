@@ -1,20 +1,19 @@
 -- The same continuations are explained from equivalent places, as the laws of an aim require.
-use Rattle.std.proofs.Common.{◌≡◌, ℕ, zero, suc, ◌<◌, ◌≤◌, List, [], ◌∷◌, ◌++◌, length, map, Option, None, Some, slice_get, refl, ap, sym, subst, ◌∙◌, arith, inl, inr}
+use Rattle.std.proofs.Common.{◌≡◌, ℕ, zero, suc, ◌≤◌, List, [], ◌∷◌, ◌++◌, length, map, Option, None, Some, slice_get, refl, ap, sym, subst, ◌∙◌, arith, inl, inr}
 use Rattle.std.specs.Prelude.{◌⊎◌, option_map}
-use Rattle.std.proofs.lemmas.Bool.{cases_lt}
 use Rattle.std.proofs.lemmas.List.{append_assoc, length-append, length-map}
-use Rattle.std.proofs.lemmas.Option.{same_Some, slice_get_past}
+use Rattle.std.proofs.lemmas.Option.{same_Some}
 use Rattle.hp_units.specs.declared.replies.Record.{Record}
 use Rattle.hp_schedules.specs.Causes.{AnswerAlike}
 use Rattle.hp_units.specs.declared.events.Event.{Event}
-use Rattle.hp_schedules.specs.Continuing.{ContinueAlike, ContinuesAs, anonymous, anonymous_record}
+use Rattle.hp_schedules.specs.Continuing.{ContinuesAs, anonymous, anonymous_record}
 use Rattle.hp_schedules.specs.LineAnswers.{answers_at}
 use Rattle.hp_schedules.specs.Schedules.{Setting, next_call, plays, schedule_of}
 use Rattle.hp_schedules.proofs.Continuing.{continues_as}
 use Rattle.hp_explore.specs.Aims.{HaveSameKey, IsLawful, IsNarrower}
 use Rattle.hp_explore.specs.CausesBelow.{answered_alike}
 use Rattle.hp_explain.specs.Explainers.{Becomes, IsMarked, aim_of}
-use Rattle.hp_explain.specs.Explaining.{AreAsSeen, AreInTime, AreOverBefore, HasSeen, IsExplained, MayRun, calls_left}
+use Rattle.hp_explain.specs.Explaining.{AreAsSeen, AreInTime, HasSeen, IsExplained, MayRun}
 use Rattle.hp_explain.specs.declared.observed.ObservedLine.{ObservedLine}
 
 -- ---- answers after the same further records
@@ -23,8 +22,7 @@ answers_marked : (g : Setting) (h k more others : List Record) (marks : List ℕ
     → map anonymous_record more ≡ map anonymous_record others → IsMarked g h marks → IsMarked g k marks
     → (cpu : ℕ) → AnswerAlike g cpu h k more others
 answers_marked g h k more others marks same are a b =
-    let whole : length h ∷ a.0 ≡ length k ∷ b.0 = sym a.1 ∙ b.1 in
-    let causes : a.0 ≡ b.0 = cc in
+    let causes : a.0 ≡ b.0 = cc (a.1, b.1) in
     answered_alike g h k more others a.0 b.0 causes same are a.2 b.2
 
 -- a processor has finished equally many lines after the further records at both places
@@ -91,9 +89,7 @@ run_alike : (g : Setting) (seen : List (List ObservedLine)) (h k : List Record) 
     → ((c : ℕ) → length (answers_at g c h) ≡ length (answers_at g c k)) → MayRun g seen h cpu
     → MayRun g seen k cpu
 run_alike g seen h k cpu many runs lines one here line c others there =
-    subst (λ (n : ℕ). AreOverBefore others n one.from) (many c)
-    (runs lines one here
-    (subst (λ (n : ℕ). slice_get lines n ≡ Some one) (sym (many cpu)) line) c others there)
+    rw (← many c) (runs lines one here (rw (many cpu) line) c others there)
 
 -- `more` begins with records that differ from `before` at most in the numbers of operations. The record
 -- after them is by the processor of `r`
@@ -104,21 +100,6 @@ record IsSplitAlike (more before : List Record) (r : Record) : Type 0 where
   pub more_is : more ≡ mid ++ other ∷ later
   pub same : map anonymous_record mid ≡ map anonymous_record before
   pub cpu : other.cpu ≡ r.cpu
-
--- the same with one more record in front of `more` and of `before`
-split_longer : (x y : Record) (more before : List Record) (r : Record)
-    → anonymous_record x ≡ anonymous_record y → IsSplitAlike more before r
-    → IsSplitAlike (x ∷ more) (y ∷ before) r
-split_longer x y more before r first split = record {
-  mid = x ∷ split.mid;
-  other = split.other;
-  later = split.later;
-  more_is = ap (λ (xs : List Record). x ∷ xs) split.more_is;
-  same =
-      ap (λ (q : Record). q ∷ map anonymous_record split.mid) first
-      ∙ ap (λ (qs : List Record). anonymous_record y ∷ qs) split.same;
-  cpu = split.cpu;
-}
 
 split_alike : (more before : List Record) (r : Record) (later : List Record)
     → map anonymous_record more ≡ map anonymous_record (before ++ r ∷ later) → IsSplitAlike more before r
@@ -135,7 +116,16 @@ split_alike (x ∷ more) [] r later same =
       cpu = ap (λ (q : Record). q.cpu) first;
     }
 split_alike (x ∷ more) (y ∷ before) r later same =
-    split_longer x y more before r (cc) (split_alike more before r later (cc))
+    let first : anonymous_record x ≡ anonymous_record y = cc in
+    let split = split_alike more before r later cc in
+    record {
+      mid = x ∷ split.mid;
+      other = split.other;
+      later = split.later;
+      more_is = ap (λ (xs : List Record). x ∷ xs) split.more_is;
+      same = cc (first, split.same);
+      cpu = split.cpu;
+    }
 
 timed_alike : (g : Setting) (seen : List (List ObservedLine)) (h k more others : List Record)
     → map anonymous_record more ≡ map anonymous_record others
@@ -165,10 +155,8 @@ pub explained_news : (g : Setting) (seen : List (List ObservedLine)) (schedule :
     → plays g schedule ≡ Some news → IsExplained g seen schedule
     → AreAsSeen g seen news × AreInTime g seen news
 explained_news g seen schedule news played explained =
-    let same : explained.news ≡ news = same_Some explained.news news (sym explained.played ∙ played) in (
-      subst (AreAsSeen g seen) same explained.answered,
-      subst (AreInTime g seen) same explained.timed,
-    )
+    let same = same_Some explained.news news (sym explained.played ∙ played) in
+    (rw same at explained.answered, rw same at explained.timed)
 
 -- a continuation of two places with the same key leads to equally many calls
 as_long : (g : Setting) (h k : List Record) (rest : List ℕ) → HaveSameKey g h k
@@ -183,32 +171,28 @@ as_long g h k rest same =
       same.alike.same.calls,
     )
 
--- `h` goes on to `end`. From `k`, the continuation `rest` gives the same further records, except
--- that the numbers of operations may differ. The schedule of `k`, followed by `rest`, explains the
--- observed answers
-record IsExplainedOn (g : Setting) (seen : List (List ObservedLine)) (rest : List ℕ) (h k : List Record)
-    (alike : ContinueAlike g h k) (end : List Record) : Type 0 where
-  pub on : ContinuesAs g (schedule_of k) rest h k alike end
-  pub few : length (schedule_of k ++ rest) ≤ calls_left g
-  pub answered : AreAsSeen g seen (k ++ on.others)
-  pub timed : AreInTime g seen (k ++ on.others)
-
-explained_on : (g : Setting) (seen : List (List ObservedLine)) (h k : List Record) (marks rest : List ℕ)
+-- with `rest`, `k` goes on as `h` does, except that the numbers of operations may differ; and the
+-- schedule of `k`, followed by `rest`, explains the observed answers
+explained_alike : (g : Setting) (seen : List (List ObservedLine)) (h k : List Record) (marks rest : List ℕ)
     → (same : HaveSameKey g h k) → IsMarked g h marks → IsMarked g k marks
     → IsExplained g seen (schedule_of k) → (e : IsExplained g seen (schedule_of h ++ rest))
-    → IsExplainedOn g seen rest h k same.alike e.news
-explained_on g seen h k marks rest same a b here e = record {
-  on = on;
-  few = omega (arith, e.few, as_long g h k rest same);
-  answered =
-      seen_alike g seen h k on.more on.others
-      (answers_marked g h k on.more on.others marks same on.same a b) own.0
-      (subst (AreAsSeen g seen) on.end_is e.answered);
-  timed =
-      timed_alike g seen h k on.more on.others on.same
-      (λ mid other are. answers_marked g h k mid other marks same are a b) own.1
-      (subst (AreInTime g seen) on.end_is e.timed);
-}
+    → (on : ContinuesAs g (schedule_of k) rest h k same.alike e.news)
+    × (x : IsExplained g seen (schedule_of k ++ rest)) × (x.news ≡ k ++ on.others)
+explained_alike g seen h k marks rest same a b here e = (
+  on,
+  record {
+    news = k ++ on.others;
+    played = on.played;
+    few = omega (arith, e.few, as_long g h k rest same);
+    answered =
+        seen_alike g seen h k on.more on.others
+        (answers_marked g h k on.more on.others marks same on.same a b) own.0 (rw on.end_is at e.answered);
+    timed =
+        timed_alike g seen h k on.more on.others on.same
+        (λ mid other are. answers_marked g h k mid other marks same are a b) own.1 (rw on.end_is at e.timed);
+  },
+  refl,
+)
   where
     on : ContinuesAs g (schedule_of k) rest h k same.alike e.news
     on =
@@ -218,17 +202,6 @@ explained_on g seen h k marks rest same a b here e = record {
     own : AreAsSeen g seen k × AreInTime g seen k
     own = explained_news g seen (schedule_of k) k same.second_played here
 
-explained_alike : (g : Setting) (seen : List (List ObservedLine)) (h k : List Record) (rest : List ℕ)
-    (alike : ContinueAlike g h k) (end : List Record) → IsExplainedOn g seen rest h k alike end
-    → IsExplained g seen (schedule_of k ++ rest)
-explained_alike g seen h k rest alike end is = record {
-  news = k ++ is.on.others;
-  played = is.on.played;
-  few = is.few;
-  answered = is.answered;
-  timed = is.timed;
-}
-
 -- ---- the laws of the aim
 
 sought_alike : (g : Setting) (seen : List (List ObservedLine)) (room : ℕ) (longest : List ℕ)
@@ -236,24 +209,19 @@ sought_alike : (g : Setting) (seen : List (List ObservedLine)) (room : ℕ) (lon
     → HaveSameKey g h k → IsMarked g h marks → IsMarked g k marks → IsExplained g seen (schedule_of k)
     → (aim_of g seen room longest).sought (schedule_of h ++ rest)
     → (aim_of g seen room longest).sought (schedule_of k ++ rest)
-unfolding explained_alike
 sought_alike g seen room longest h k marks rest same a b here (inl order) =
-    let is = explained_on g seen h k marks rest same a b here order.begun in
+    let is = explained_alike g seen h k marks rest same a b here order.begun in
     inl (record {
-      begun = explained_alike g seen h k rest same.alike order.begun.news is;
-      over = λ cpu. over (next_call g cpu order.begun.news) (next_call g cpu (k ++ is.on.others))
-          (is.on.calls cpu) (order.over cpu);
+      begun = is.1;
+      over = λ cpu. over (next_call g cpu order.begun.news) (next_call g cpu is.1.news)
+          (rw is.2 (is.0.calls cpu)) (order.over cpu);
     })
   where
     over : (o u : Option Event) → option_map anonymous o ≡ option_map anonymous u → o ≡ None → u ≡ None
-    over None None calls none = refl
-    over None (Some e) calls none = absurd cc
-    over (Some e) u calls none = absurd cc
-sought_alike g seen room longest h k marks rest same a b here (inr longer) = inr (
-  explained_alike g seen h k rest same.alike longer.0.news
-      (explained_on g seen h k marks rest same a b here longer.0),
-  omega (arith, longer.1, as_long g h k rest same),
-)
+    over o u calls none = grind arith
+sought_alike g seen room longest h k marks rest same a b here (inr longer) =
+    let is = explained_alike g seen h k marks rest same a b here longer.0 in
+    inr (is.1, omega (arith, longer.1, as_long g h k rest same))
 
 sought_played : (g : Setting) (seen : List (List ObservedLine)) (room : ℕ) (longest s : List ℕ)
     → (aim_of g seen room longest).sought s → (news : List Record) × (plays g s ≡ Some news)
@@ -264,9 +232,7 @@ pub explaining_lawful : (g : Setting) (seen : List (List ObservedLine)) (room : 
     → IsLawful g (aim_of g seen room longest)
 explaining_lawful g seen room longest = record {
   played = sought_played g seen room longest;
-  counted = λ h k marks first second a b.
-      let whole : length h ∷ a.0 ≡ length k ∷ b.0 = sym a.1 ∙ b.1 in
-      let many : length h ≡ length k = cc in many;
+  counted = λ h k marks first second a b. cc (a.1, b.1);
   continued = λ h k marks rest same first second a b sought.
       sought_alike g seen room longest h k marks rest same a b second.0 sought;
 }
@@ -283,15 +249,12 @@ pub explaining_narrower : (g : Setting) (seen : List (List ObservedLine)) (room 
     → Becomes g seen room longest later left new
     → IsNarrower (aim_of g seen room longest) (aim_of g later left new)
 explaining_narrower g seen room longest later left new becomes =
-    subst (λ (x : List (List ObservedLine)). IsNarrower (aim_of g seen room longest) (aim_of g x left new))
-    (sym becomes.0)
-    (subst (λ (n : ℕ). IsNarrower (aim_of g seen room longest) (aim_of g seen n new)) (sym becomes.1)
-    (record {
+    rw (becomes.0, becomes.1) (record {
       sought = λ s sought. sought_narrower g seen room longest new s becomes.2 sought;
       admits = λ s admitted. admitted;
       marks = λ news numbers marked. marked;
       whole = λ whole. whole;
-    }))
+    })
 
 pub explaining_stays : (g : Setting) (seen : List (List ObservedLine)) (room : ℕ) (longest : List ℕ)
     → Becomes g seen room longest seen room longest
@@ -306,7 +269,5 @@ explaining_joined g seen room longest mid left more later last new first second 
   second.0 ∙ first.0,
   second.1 ∙ first.1,
   omega (arith, first.2, second.2),
-  λ explained. subst (λ (x : List (List ObservedLine)). IsExplained g x new) first.0
-      (second.3 (subst (λ (x : List (List ObservedLine)). IsExplained g x more) (sym first.0)
-      (first.3 explained))),
+  λ explained. rw first.0 at (second.3 (rw first.0 (first.3 explained))),
 )

@@ -1,5 +1,5 @@
 -- The aim of a search for an order that explains the observed answers, and the changes of this aim.
-use Rattle.std.specs.Prelude.{◌≡◌, ◌⊎◌, ℕ, ◌<◌, ◌≤◌, List, [], ◌∷◌, ◌++◌, Some, length}
+use Rattle.std.specs.Prelude.{◌≡◌, ◌⊎◌, ℕ, ◌<◌, ◌≤◌, List, ◌∷◌, Some, length}
 use Rattle.hp_units.specs.declared.replies.Record.{Record}
 use Rattle.hp_schedules.specs.Schedules.{Setting, plays}
 use Rattle.hp_explore.specs.Aims.{AimValue}

@@ -1,5 +1,5 @@
 -- The lines are empty at first, so what goes in is all that they are.
-use Rattle.std.proofs.Common.{ℕ, List, ◌++◌, Bor, ap, map, ◌∙◌}
+use Rattle.std.proofs.Common.{ap, ◌∙◌}
 use Rattle.std.specs.Str.Iter.{lines_rest}
 use Rattle.std.proofs.lemmas.Iterator.Adapters.{fact_from_extend}
 use Rattle.std.proofs.lemmas.Iterator.Splits.{YieldsList-from_lines}

@@ -1,11 +1,7 @@
 -- What the search for its aim found.
-use Rattle.std.proofs.Common.{ap, subst, Global, None, Option, Vec, ◌∙◌}
-use Rattle.std.specs.Prelude.{option_map}
+use Rattle.std.proofs.Common.{◌∙◌}
 use Rattle.std.proofs.lemmas.Result.{err_from_is_err_and}
-use Rattle.hp_units.specs.declared.Cpu.{Cpu}
-use Rattle.hp_explore.specs.Aims.{IsFirstSought}
 use Rattle.hp_explore.specs.Settings.{setting}
-use Rattle.hp_explain.specs.Explainers.{aim_of}
 use Rattle.hp_explain.specs.Explaining.{IsExplained}
 use Rattle.hp_explain.proofs.Orders.{explain_cause, none_found, start_explained}
 use Rattle.hp_explain.proofs.explaining.explain.Goals as goal
@@ -19,10 +15,8 @@ first_sought-requires-clause-admitted g c = (
 pub returns-in_err-order-clause-err : goal.returns-in_err-order-clause-err
 returns-in_err-order-clause-err g c =
     let p = err_from_is_err_and c.from_residual.result c.from_residual.ensures.1 in
-    let found = c.first_sought.new.aim in
     rw (p.1, p.2)
-    (explain_cause (setting c.args.machine.now c.args.scripts.now) found.seen.now found.room
-    found.longest.items _ c.in_err-order.ensures.err)
+    (explain_cause (setting c.args.machine.now c.args.scripts.now) _ _ _ _ c.in_err-order.ensures.err)
 
 pub returns-in-None-clause-ok : goal.returns-in-None-clause-ok
 returns-in-None-clause-ok g c =

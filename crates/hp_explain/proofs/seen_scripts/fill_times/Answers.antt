@@ -1,7 +1,5 @@
 -- One more line from the last one on.
-use Rattle.std.proofs.Common.{◌-◌, List, arith, length, subst, sym}
-use Rattle.hp_explain.specs.Explaining.{AreRising}
-use Rattle.hp_explain.specs.declared.observed.ObservedLine.{ObservedLine}
+use Rattle.std.proofs.Common.{arith}
 use Rattle.hp_explain.proofs.TimesFilled.{fill_all, fill_none, fill_step, filled_rise}
 use Rattle.hp_explain.proofs.seen_scripts.fill_times.Goals as goal
 
@@ -10,16 +8,12 @@ loop-passed-init c = fill_none c.args.lines.now
 
 pub loop-passed-preserved : goal.loop-passed-preserved
 loop-passed-preserved c =
-    fill_step c.args.lines.now c.loop-passed.lines c.loop-passed.passed c.loop-passed.later
-    (length c.loop-passed.lines - 1 - c.loop-passed.passed) c.min-line.result c.index-lines-lines.result
-    (omega arith) c.min-line.ensures c.loop-passed.invariant
+    fill_step _ _ _ _ _ _ _ (omega arith) c.min-line.ensures c.loop-passed.invariant
 
 pub returns-clause-rising : goal.returns-clause-rising
 returns-clause-rising c =
-    rw (fill_all c.args.lines.now c.loop-passed.lines c.loop-passed.passed c.loop-passed.later
-    c.loop-passed-test.false c.loop-passed.invariant) (filled_rise c.args.lines.now)
+    rw (fill_all _ _ _ _ c.loop-passed-test.false c.loop-passed.invariant) (filled_rise c.args.lines.now)
 
 pub returns-clause-filled : goal.returns-clause-filled
 returns-clause-filled c =
-    fill_all c.args.lines.now c.loop-passed.lines c.loop-passed.passed c.loop-passed.later
-    c.loop-passed-test.false c.loop-passed.invariant
+    fill_all _ _ _ _ c.loop-passed-test.false c.loop-passed.invariant

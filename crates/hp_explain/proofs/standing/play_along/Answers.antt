@@ -1,7 +1,6 @@
 -- One call more.
-use Rattle.std.proofs.Common.{◌≡◌, ℕ, Bool, Some, slice_get, ap, refl, sym, subst, ◌∙◌}
+use Rattle.std.proofs.Common.{refl}
 use Rattle.std.proofs.lemmas.Option.{slice_get_read}
-use Rattle.hp_explore.specs.Paths.{IsForth, PathValue}
 use Rattle.hp_explain.proofs.Stood.{played_further}
 use Rattle.hp_explain.proofs.standing.play_along.Goals as goal
 
@@ -9,9 +8,7 @@ pub loop-cpu-preserved : goal.loop-cpu-preserved
 loop-cpu-preserved c =
     let forth = rw c.in-Ok-true.field-0-test at c.in-Ok-true.ensures.ok in record {
       setting = rw forth.3 c.loop-cpu.invariant.setting;
-      front = played_further c.loop-cpu.path c.forward.new.self c.cpu.inside.0 c.loop-cpu.cpu-index
-          c.args.schedule.now forth
-          (rw c.cpu.view_is (slice_get_read c.args.schedule.now _ c.loop-cpu.cpu-index c.cpu-item.result refl
-          c.loop-cpu-test.true c.cpu-item.is))
+      front = played_further c.loop-cpu.path c.forward.new.self c.cpu.inside.0 _ _ forth
+          (rw c.cpu.view_is (slice_get_read _ _ _ c.cpu-item.result refl c.loop-cpu-test.true c.cpu-item.is))
           c.loop-cpu.invariant.front;
     }

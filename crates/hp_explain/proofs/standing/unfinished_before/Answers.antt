@@ -19,5 +19,5 @@ returns-then-not-are_over-clause-some c =
 
 pub returns-clause-none : goal.returns-clause-none
 returns-clause-none c =
-    over_all c.args.path.now.setting c.args.seen.now c.args.path.now.news c.args.time c.loop-cpu.cpu
-    (omega (arith, c.loop-cpu-test.false, c.processors-cpu-end.ensures)) c.loop-cpu.invariant
+    over_all _ _ _ _ c.loop-cpu.cpu (omega (arith, c.loop-cpu-test.false, c.processors-cpu-end.ensures))
+    c.loop-cpu.invariant

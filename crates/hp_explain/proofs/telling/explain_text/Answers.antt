@@ -9,15 +9,12 @@ use Rattle.hp_explain.proofs.telling.explain_text.Goals as goal
 pub returns-in_err-prepared-clause-err : goal.returns-in_err-prepared-clause-err
 returns-in_err-prepared-clause-err g c =
     let p = err_from_is_err_and c.from_residual.result c.from_residual.ensures.1 in
-    rw (p.1, p.2)
-    (unprepared_known IsExplainingCause c.args.scenario.now 0 _ c.in_err-prepared.ensures.err)
+    rw (p.1, p.2) (unprepared_known IsExplainingCause _ _ _ c.in_err-prepared.ensures.err)
 
 pub returns-in_err-seen-clause-err : goal.returns-in_err-seen-clause-err
 returns-in_err-seen-clause-err g c =
     let p = err_from_is_err_and c.from_residual-in_err-seen.result c.from_residual-in_err-seen.ensures.1 in
-    rw (p.1, p.2)
-    (stopped_in (λ g. Unit {0}) c.args.scenario.now 0 c.in_ok-prepared.prepared
-    c.in_ok-prepared.ensures.ok tt)
+    rw (p.1, p.2) (stopped_in (λ g. Unit {0}) _ _ _ c.in_ok-prepared.ensures.ok tt)
 
 pub returns-in-Ok-clause-ok : goal.returns-in-Ok-clause-ok
 returns-in-Ok-clause-ok g c =
@@ -26,7 +23,7 @@ returns-in-Ok-clause-ok g c =
     held_in
     (λ names before s. OfAnswers c.args.answers.now s
     (λ seen. IsExplainedOn c.args.form names before s seen (string_bytes f.text) f.result))
-    c.args.scenario.now 0 c.in_ok-prepared.prepared c.in_ok-prepared.ensures.ok
+    _ _ _ c.in_ok-prepared.ensures.ok
     (c.in_ok-seen.seen, (sizes, c.in_ok-seen.ensures.words, c.in_ok-seen.ensures.objects), c.in-Ok.ensures.ok)
 
 pub returns-clause-err : goal.returns-clause-err

@@ -9,8 +9,7 @@ pub returns-then-not-are_over : goal.returns-then-not-are_over
 returns-then-not-are_over c = (
   λ told. absurd cc,
   λ all.
-      let lines =
-      get_some c.args.self.now.seen.now c.loop-cpu.cpu
+      let lines = get_some c.args.self.now.seen.now c.loop-cpu.cpu
       (omega (arith, c.loop-cpu-test.true, c.processors-cpu-end.ensures)) in
       absurd (iff_false (c.are_over.ensures lines.0 lines.1) c.if-not-are_over.true
       (rw c.finished.ensures (all c.loop-cpu.cpu lines.0 lines.1))),
@@ -18,8 +17,7 @@ returns-then-not-are_over c = (
 
 pub returns : goal.returns
 returns c = (
-  λ told. over_all c.args.path.now.setting c.args.self.now.seen.now c.args.path.now.news c.args.time
-      c.loop-cpu.cpu (omega (arith, c.loop-cpu-test.false, c.processors-cpu-end.ensures))
-      c.loop-cpu.invariant,
+  λ told. over_all _ _ _ _ c.loop-cpu.cpu
+      (omega (arith, c.loop-cpu-test.false, c.processors-cpu-end.ensures)) c.loop-cpu.invariant,
   λ all. refl,
 )
