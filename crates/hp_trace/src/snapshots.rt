@@ -47,7 +47,7 @@ fn holder_of(machine: &Machine, frame: Frame) -> FrameHolder
 }
 
 /// Returns the row of each memory block: its state, its zone, and the operation that claims it.
-#[tactic(auto, using(crate::proofs::SnapshotsTaken::take_none, crate::proofs::SnapshotsTaken::take_one))]
+#[tactic(auto, using(crate::proofs::SnapshotsTaken::take_none, hp_laws::proofs::Replays::take_one))]
 fn rows_of(alloc: Global, machine: &Machine) -> Result<Vec<Row>, AllocError>
     requires { IsWellPlaced machine.now.layout machine.now.state }
     ensures { IfOk result (λ rows. rows.items ≡ machine.now.state.blocks.rows) }
