@@ -5,48 +5,44 @@ use Rattle.std.proofs.lemmas.List.{get_or_default}
 use Rattle.hp_part_files.specs.Ordering.{AreInPlace, ArePlacedBelow, AreRising, AreWithin, IsMissing, IsTwice}
 use Rattle.hp_part_files.specs.Gathering.{PartEndsValue}
 
--- the part at a place has the number of the place before it
-pub comes_twice : (of : ℕ) (parts : List PartEndsValue) (index number : ℕ) (p : PartEndsValue)
-    → index < length parts → p ≡ get_or parts index p → number ≡ p.number → AreWithin of parts
-    → AreRising parts → ArePlacedBelow index parts → number < index + 1 → IsTwice parts number
-comes_twice of parts index number p lt here is within rising placed less = record {
-  some = some;
-  before = subst (λ (n : ℕ). ArePlacedBelow n parts) own placed;
-  within = subst (λ (n : ℕ). n < length parts) own lt;
-  again = λ d. subst (λ (n : ℕ). (get_or parts n d).number ≡ number) own (at d);
-  beyond = λ k d from k_lt. omega (arith, rising index k d (omega (arith, own, from)) k_lt, at d);
-}
-  where
-    at : (d : PartEndsValue) → (get_or parts index d).number ≡ number
-    at d = ap (λ (q : PartEndsValue). q.number) (get_or_default parts index d p lt ∙ sym here) ∙ sym is
+module _ (of : ℕ) (parts : List PartEndsValue) (index number : ℕ) (p : PartEndsValue)
+    (lt : index < length parts) (here : p ≡ get_or parts index p) (is : number ≡ p.number)
+    (within : AreWithin of parts) (rising : AreRising parts) (placed : ArePlacedBelow index parts) where
+  at : (d : PartEndsValue) → (get_or parts index d).number ≡ number
+  at d = ap (λ (q : PartEndsValue). q.number) (get_or_default parts index d p lt ∙ sym here) ∙ sym is
 
-    some : 1 ≤ number
-    some = subst (λ (n : ℕ). 1 ≤ n) (at p) (within index p lt).0
+  -- the part at the place has the number of the place before it
+  pub comes_twice : number < index + 1 → IsTwice parts number
+  comes_twice less = record {
+    some = some;
+    before = rw own at placed;
+    within = rw own at lt;
+    again = λ d. subst (λ (n : ℕ). (get_or parts n d).number ≡ number) own (at d);
+    beyond = λ k d from k_lt. omega (arith, rising index k d (omega (arith, own, from)) k_lt, at d);
+  }
+    where
+      some : 1 ≤ number
+      some = rw (at p) at (within index p lt).0
 
-    own : index ≡ number
-    own =
-        omega (
-          arith,
-          some,
-          less,
-          placed (index - 1) p (omega (arith, some, less)),
-          rising (index - 1) index p (omega arith) lt,
-          at p,
-        )
+      own : index ≡ number
+      own =
+          omega (
+            arith,
+            some,
+            less,
+            placed (index - 1) p (omega (arith, some, less)),
+            rising (index - 1) index p (omega arith) lt,
+            at p,
+          )
 
--- a number is passed over
-pub is_missing : (of : ℕ) (parts : List PartEndsValue) (index number : ℕ) (p : PartEndsValue)
-    → index < length parts → p ≡ get_or parts index p → number ≡ p.number → AreWithin of parts
-    → AreRising parts → ArePlacedBelow index parts → index + 1 < number → IsMissing parts of (index + 1)
-is_missing of parts index number p lt here is within rising placed more = record {
-  some = omega arith;
-  within = omega (arith, (within index p lt).1, at p, more);
-  before = λ k d less. placed k d (omega (arith, less));
-  beyond = λ k d from k_lt. omega (arith, rising index k d (omega (arith, from)) k_lt, at d, more);
-}
-  where
-    at : (d : PartEndsValue) → (get_or parts index d).number ≡ number
-    at d = ap (λ (q : PartEndsValue). q.number) (get_or_default parts index d p lt ∙ sym here) ∙ sym is
+  -- a number is passed over
+  pub is_missing : index + 1 < number → IsMissing parts of (index + 1)
+  is_missing more = record {
+    some = omega arith;
+    within = omega (arith, (within index p lt).1, at p, more);
+    before = λ k d less. placed k d (omega (arith, less));
+    beyond = λ k d from k_lt. omega (arith, rising index k d (omega (arith, from)) k_lt, at d, more);
+  }
 
 -- all are there once
 pub all_placed : (of : ℕ) (parts : List PartEndsValue) → AreWithin of parts

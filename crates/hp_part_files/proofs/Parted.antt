@@ -1,9 +1,7 @@
 -- From what the search of a part says to what its text promises.
-use Rattle.std.proofs.Common.{◌≡◌, ℕ, ◌<◌, ◌≤◌, ◌*◌, ◌^◌, Bool, List, length, Option, Some, None, Result, Err, refl, subst, ap, inl, inr}
+use Rattle.std.proofs.Common.{◌≡◌, ℕ, List, length, Option, Some, None, refl}
 use Rattle.std.specs.Prelude.{◌⊎◌}
 use Rattle.std.specs.Str.{IsUtf8}
-use Rattle.hp_explore.specs.Settings.{setting}
-use Rattle.hp_schedules.specs.declared.tally.Ending.{Ending}
 use Rattle.hp_explore.specs.declared.exploring.Exploration.{Exploration}
 use Rattle.hp_explore.specs.declared.exploring.ExploreFault.{ExploreFault}
 use Rattle.hp_explore.specs.declared.exploring.ExploreFault.TheVariants as explore
@@ -15,18 +13,15 @@ use Rattle.hp_schedules.specs.Schedules.{Setting}
 use Rattle.hp_explore.specs.Faults.{FillsPart, IsCause, IsCausePartWithin}
 use Rattle.hp_search.specs.Ends.{IsMore}
 use Rattle.hp_search.specs.Faults.{IsFaultOf, IsFaultWith, IsFull}
-use Rattle.hp_scripts.specs.Named.{named_in, named_of}
+use Rattle.hp_scripts.specs.Named.{named_in}
 use Rattle.hp_search.specs.Holding.{HoldsAfter, InScenario}
 use Rattle.hp_search.specs.declared.lab_fault.LabFault.{LabFault}
 use Rattle.hp_search.specs.declared.lab_fault.LabFault.TheVariants as lab
 use Rattle.hp_schedules.specs.Parts.{EndsInPart, IsCompleteInPart, PartValue}
-use Rattle.hp_scenario.specs.Gives.{◌>>=◌}
-use Rattle.hp_scenario.specs.declared.fault.ScenarioFault.{ScenarioFault}
 use Rattle.hp_scenario.specs.declared.fault.ScenarioFault.TheVariants.{NotJson}
 use Rattle.hp_scenario.proofs.Json.{json_refused}
-use Rattle.serde_json.specs.Data.{Data}
 use Rattle.hp_schedules.specs.PartNumbers.{NumberValue, part_by}
-use Rattle.hp_part_files.specs.Parts.{ArePartEnds, FillsPartOf, IsCallsFor, IsFullPart, IsPartCause, IsPartOf}
+use Rattle.hp_part_files.specs.Parts.{ArePartEnds, FillsPartOf, IsCallsFor, IsFullPart, IsPartCause}
 
 -- the ends are all of the part, or its first ones
 pub part_explored : (g : Setting) (part : PartValue) (limit : ℕ) (ended : Type 0) (x : Exploration)
@@ -41,44 +36,6 @@ pub part_explored : (g : Setting) (part : PartValue) (limit : ℕ) (ended : Type
 part_explored g part limit ended x None whole few room first many stopped h = (whole h, few h, room h)
 part_explored g part limit ended x (Some known) whole few room first many stopped h =
     (first h.0, many h.0, stopped h.0, h.1)
-
--- the same without why a search stopped
-part_loosely : (g : Setting) (part : PartValue) (limit : ℕ) (ended : Type 0) (ends : List Ending)
-    (more : Option HowMany)
-    → ArePartEnds g part limit ended ends more → ArePartEnds g part limit (Unit {0}) ends more
-part_loosely g part limit ended ends None h = h
-part_loosely g part limit ended ends (Some known) h =
-    (h.0, h.1, elim h.2 [ inl full ↦ inl full | inr why ↦ inr tt ], h.3)
-
-pub loosely : (n : NumberValue) (input : List ℕ) (setup limit : ℕ) (ended : Type 0) (text : List ℕ)
-    (found : Bool)
-    → IsPartOf n input setup limit ended text found → IsPartOf n input setup limit (Unit {0}) text found
-loosely n input setup limit ended text found h =
-    let on = h.holds.holds in
-    record {
-      named = h.named;
-      read = h.read;
-      plain = h.plain;
-      resolved = h.resolved;
-      holds = record {
-        start = h.holds.start;
-        scripts = h.holds.scripts;
-        begun = h.holds.begun;
-        holds = record {
-          calls = on.calls;
-          ends = on.ends;
-          more = on.more;
-          by = on.by;
-          are =
-              part_loosely (setting h.holds.start h.holds.scripts) (part_by n on.calls) limit ended on.ends
-              on.more on.are;
-          ordered = on.ordered;
-          within = on.within;
-          told = on.told;
-          is_found = on.is_found;
-        };
-      };
-    }
 
 -- why a part is not searched
 pub part_cause : (n : NumberValue) (limit : ℕ) (g : Setting) (calls : ℕ) (fault : ExploreFault)

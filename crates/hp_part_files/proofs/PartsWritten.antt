@@ -11,16 +11,15 @@ use Rattle.hp_part_files.specs.Texts.{begun_lines, end_line, end_lines}
 pub end_lines_push : (names : List (List ℕ)) (g : Setting) (number : ℕ) (ends : List Ending) (e : Ending)
     → end_lines names g number (ends ++ e ∷ [])
     ≡ end_lines names g number ends ++ (end_line names g (number + length ends) e ++ newline)
-end_lines_push names g number [] e =
-    rw (append-nil, add-zero)
+end_lines_push names g number [] e = rw (append-nil, add-zero)
 end_lines_push names g number (x ∷ ends) e =
-    let front : List ℕ = end_line names g number x ++ newline in
     let next : number + 1 + length ends ≡ number + length (x ∷ ends) = omega arith in
-    ap (λ (l : List ℕ). front ++ l) (end_lines_push names g (number + 1) ends e)
-    ∙ (sym (append_assoc front (end_lines names g (number + 1) ends)
+    ap (λ (l : List ℕ). (end_line names g number x ++ newline) ++ l)
+    (end_lines_push names g (number + 1) ends e)
+    ∙ (sym (append_assoc (end_line names g number x ++ newline) (end_lines names g (number + 1) ends)
     (end_line names g (number + 1 + length ends) e ++ newline))
-    ∙ ap (λ (n : ℕ). (front ++ end_lines names g (number + 1) ends) ++ (end_line names g n e ++ newline))
-    next)
+    ∙ ap (λ (n : ℕ). ((end_line names g number x ++ newline) ++ end_lines names g (number + 1) ends)
+    ++ (end_line names g n e ++ newline)) next)
 
 -- an end is written, and others are still to be
 pub end_written : (names : List (List ℕ)) (g : Setting) (ends : List Ending) (index : ℕ) (e : Ending)

@@ -1,35 +1,30 @@
 -- What a line is, by the value that its text is.
-use Rattle.std.proofs.Common.{◌≡◌, ℕ, List, Option, Some, None, Ok, Err, codes, refl, sym, subst, ap, ◌∙◌}
-use Rattle.std.specs.Prelude.{option_and_then}
-use Rattle.serde_json.specs.View.{view}
-use Rattle.serde_json.specs.declared.value.Value.{Value}
+use Rattle.std.proofs.Common.{◌≡◌, ℕ, List, Option, Some, None, Ok, Err, codes, refl, arith}
 use Rattle.serde_json.specs.Data.{Data}
 use Rattle.hp_scenario.specs.Form.{number_at}
 use Rattle.hp_scenario.specs.Gives.{or_fault}
 use Rattle.hp_scenario.specs.Scenario.{json_of}
 use Rattle.hp_scenario.specs.declared.fault.ScenarioFault.{ScenarioFault}
-use Rattle.hp_part_files.specs.Heads.{HeadValue, head_from, head_with}
-use Rattle.hp_part_files.specs.Reading.{IsLine, IsLineIn, IsLineOf, narrow, text_at}
+use Rattle.hp_part_files.specs.Heads.{head_from, head_with}
+use Rattle.hp_part_files.specs.Reading.{IsLine, IsLineOf, narrow, text_at}
 use Rattle.hp_part_files.specs.declared.reading.PartLine.{PartLine}
 use Rattle.hp_part_files.specs.declared.reading.PartLine.TheVariants.{Other}
 
 -- the text is a value, or it is none
 pub in_value : (text : List ℕ) (d : Data) (line : PartLine) → Some d ≡ json_of text → IsLineOf d line
     → IsLine text line
-in_value text d line is h = subst (λ (o : Option Data). IsLineIn o line) is h
+in_value text d line is h = rw (← is) h
 
 pub in_none : (text : List ℕ) → None ≡ json_of text → IsLine text Other
-in_none text is = subst (λ (o : Option Data). IsLineIn o Other) is tt
+in_none text is = rw (← is) tt
 
 -- what is given, or a fault
 pub none_of : {A : Type 0} (fault : ScenarioFault) (o : Option A) → or_fault fault o ≡ Err fault → None ≡ o
-none_of fault None is = refl
-none_of fault (Some x) is = cc
+none_of fault o is = grind arith
 
 pub some_of : {A : Type 0} (fault : ScenarioFault) (o : Option A) (x : A) → or_fault fault o ≡ Ok x
     → Some x ≡ o
-some_of fault None x is = cc
-some_of fault (Some y) x is = cc
+some_of fault o x is = grind arith
 
 -- the head that a value with all its keys is
 pub head_read : (d : Data) (number of wide calls setup ends : ℕ) (scenario : List ℕ)

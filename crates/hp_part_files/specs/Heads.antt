@@ -28,31 +28,23 @@ part_in s number = part_by (record { number = number; of = s.of }) s.calls
 
 -- ---- heads, as they are written
 
-abbrev pub head_part : (number : ℕ) → List ℕ
-head_part number = codes "{\"part\": " ++ decimal number
+-- the number of a part, of how many parts, and how many first calls decide a part
+abbrev pub head_numbers : (number of calls : ℕ) → List ℕ
+head_numbers number of calls =
+    codes "{\"part\": " ++ decimal number ++ codes ", \"of\": " ++ decimal of ++ codes ", \"calls\": "
+    ++ decimal calls
 
-abbrev pub head_of : (of : ℕ) → List ℕ
-head_of of = codes ", \"of\": " ++ decimal of
-
-abbrev pub head_calls : (calls : ℕ) → List ℕ
-head_calls calls = codes ", \"calls\": " ++ decimal calls
-
-abbrev pub head_numbers : SearchValue → (number : ℕ) → List ℕ
-head_numbers s number = head_part number ++ head_of s.of ++ head_calls s.calls
-
-abbrev pub head_setup : (setup : ℕ) → List ℕ
-head_setup setup = codes ", \"setup\": " ++ decimal setup
-
-abbrev pub head_ends : (ends : ℕ) → List ℕ
-head_ends ends = codes ", \"ends\": " ++ decimal ends
-
+-- how many lines are the setup, how many ends the part has, and the key of the scenario
 abbrev pub head_counts : (setup ends : ℕ) → List ℕ
-head_counts setup ends = head_setup setup ++ head_ends ends ++ codes ", \"scenario\": \""
+head_counts setup ends =
+    codes ", \"setup\": " ++ decimal setup ++ codes ", \"ends\": " ++ decimal ends
+    ++ codes ", \"scenario\": \""
 
 -- the head of part `number`, counted from 1, with `ends` ends
 abbrev pub head_line : SearchValue → (number ends : ℕ) → List ℕ
 head_line s number ends =
-    head_numbers s number ++ head_counts s.setup ends ++ escaped_text Kept s.scenario ++ codes "\"}"
+    head_numbers number s.of s.calls ++ head_counts s.setup ends ++ escaped_text Kept s.scenario
+    ++ codes "\"}"
 
 -- ---- heads, as they are read
 

@@ -1,7 +1,7 @@
 //! The head of a part: the first line of its file.
 ghost use Rattle.std.specs.Prelude.{◌≡◌, ◌++◌, ◌↔◌, IfOk, IfSome, IsTrue, OnOk, option_map, string_bytes};
 ghost use Rattle.serde_json.specs.View.{view};
-ghost use Rattle.hp_part_files.specs.Heads.{IsNumber, head_calls, head_counts, head_from as head, head_line, head_of, head_part, head_with as with_numbers, part_in};
+ghost use Rattle.hp_part_files.specs.Heads.{IsNumber, head_counts, head_from as head, head_line, head_numbers, head_with as with_numbers, part_in};
 
 use crate::reading::{narrow, number_at, text_at};
 use hp_schedules::{Shard, ShardId};
@@ -140,8 +140,8 @@ pub fn is_head(
 
 /// Writes the part's number, how many parts there are, and how many first calls decide a part.
 fn write_numbers(out: &mut String, number: u32, of: u32, calls: u32) -> Result<(), AllocError>
-    ensures { OnOk result (string_bytes out.new
-        ≡ string_bytes out.old ++ (head_part number ++ head_of of ++ head_calls calls)) }
+    ensures { OnOk result
+        (string_bytes out.new ≡ string_bytes out.old ++ head_numbers number of calls) }
 {
     write!(
         out,

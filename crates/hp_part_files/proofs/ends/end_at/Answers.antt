@@ -1,7 +1,4 @@
-use Rattle.std.proofs.Common.{ℕ, List, subst, sym, ◌∙◌}
-use Rattle.hp_units.specs.declared.replies.Record.{Record}
-use Rattle.hp_schedules.specs.Schedules.{schedule_of}
-use Rattle.hp_schedules.specs.Parts.{IsOfPart}
+use Rattle.std.proofs.Common.{sym, ◌∙◌}
 use Rattle.std.proofs.lemmas.Bool.{false≢true}
 use Rattle.hp_part_files.proofs.Ended.{ended}
 use Rattle.hp_part_files.proofs.ends.end_at.Goals as goal

@@ -1,7 +1,3 @@
-use Rattle.std.proofs.Common.{◌++◌, ap, codes, string_bytes, ◌∙◌}
-use Rattle.hp_text.specs.Escapes.{escaped_text}
-use Rattle.hp_text.specs.declared.escapes.Brackets.TheVariants.{Kept}
-use Rattle.hp_part_files.specs.Heads.{SearchValue, head_counts, head_line, head_numbers}
 use Rattle.hp_part_files.proofs.Written.{four_written}
 use Rattle.hp_part_files.proofs.heads.write_head.Goals as goal
 

@@ -1,5 +1,4 @@
-use Rattle.std.proofs.Common.{◌≡◌, ℕ, length, arith, subst}
-use Rattle.hp_part_files.specs.Ordering.{ArePlacedBelow}
+use Rattle.std.proofs.Common.{◌≡◌, length, arith}
 use Rattle.hp_part_files.proofs.Ordered.{all_placed}
 use Rattle.hp_part_files.proofs.ordering.check_numbers.Goals as goal
 

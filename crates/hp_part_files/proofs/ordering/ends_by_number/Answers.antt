@@ -1,6 +1,5 @@
-use Rattle.std.proofs.Common.{◌≤◌, List, subst, sym}
+use Rattle.std.proofs.Common.{◌≤◌}
 use Rattle.std.proofs.lemmas.List.Sorted.{All-permutation}
-use Rattle.hp_part_files.specs.Ordering.{AreWithin}
 use Rattle.hp_part_files.specs.Gathering.{PartEndsValue}
 use Rattle.hp_part_files.proofs.ordering.ends_by_number.Goals as goal
 

@@ -1,13 +1,9 @@
-use Rattle.std.proofs.Common.{ℕ, List, length, ap, sym, subst, ◌∙◌}
+use Rattle.std.proofs.Common.{List, length, subst}
 use Rattle.hp_schedules.specs.declared.scripts.Step.{Step}
 use Rattle.std.proofs.lemmas.Result.{err_from_is_err_and}
-use Rattle.hp_explore.specs.Faults.{IsCausePartWithin}
 use Rattle.hp_explore.specs.Settings.{setting}
-use Rattle.hp_search.specs.Ends.{IsMore}
-use Rattle.hp_search.specs.Prepared.{names_of, setting_of}
-use Rattle.hp_schedules.specs.Parts.{PartValue}
-use Rattle.hp_part_files.specs.Parts.{ArePartEnds, IsCallsFor, search_of}
-use Rattle.hp_part_files.specs.Texts.{part_text}
+use Rattle.hp_search.specs.Prepared.{setting_of}
+use Rattle.hp_part_files.specs.Parts.{ArePartEnds, IsCallsFor}
 use Rattle.hp_part_files.proofs.Parted.{part_cause, part_explored}
 use Rattle.hp_part_files.proofs.parts.part_on.Given.{Over}
 use Rattle.hp_part_files.proofs.parts.part_on.Goals as goal
@@ -27,8 +23,8 @@ pub returns-clause-ok : goal.returns-clause-ok
 returns-clause-ok g c =
     let p = c.args.prepared.now in
     let x = c.in_ok-explored.explored in
+    let e = c.in_ok-explored.ensures in
     let told = c.in-Ok.ensures.ok in
-    let ended : Type 0 = g.W.Watch.has_ended c.explore_part.new.watch in
     record {
       calls = c.calls_for-calls.result;
       ends = x.ends.items;
@@ -37,23 +33,20 @@ returns-clause-ok g c =
       are =
           rw (← c.part.ensures)
           (subst (λ (ss : List (List Step)). ArePartEnds (setting p.start.machine ss) c.part.result
-          c.args.limit ended x.ends.items told.0) c.as_slice-scripts.ensures.value
-          (part_explored (setting p.start.machine c.as_slice-scripts.result.now) c.part.result c.args.limit
-          ended x told.0 c.in_ok-explored.ensures.ok c.in_ok-explored.ensures.few
-          c.in_ok-explored.ensures.room c.in_ok-explored.ensures.first c.in_ok-explored.ensures.many
-          c.in_ok-explored.ensures.stopped (rw c.as_slice-scripts.ensures.value told.1)));
-      ordered = c.in_ok-explored.ensures.ordered;
-      within = c.in_ok-explored.ensures.within;
+          c.args.limit (g.W.Watch.has_ended c.explore_part.new.watch) x.ends.items told.0)
+          c.as_slice-scripts.ensures.value
+          (part_explored _ _ _ _ x _ e.ok e.few e.room e.first e.many e.stopped
+          (rw c.as_slice-scripts.ensures.value told.1)));
+      ordered = e.ordered;
+      within = e.within;
       told = rw (← c.of-2.ensures, ← c.number.ensures) told.2;
       is_found = told.3;
     }
 
 pub returns-in_err-explored-clause-err : goal.returns-in_err-explored-clause-err
 returns-in_err-explored-clause-err g c =
-    let p = c.args.prepared.now in
-    let fault = c.in_err-explored.field-0.0 in
     let is = err_from_is_err_and c.from_residual.result c.from_residual.ensures.1 in
     rw (is.1, is.2)
-    (part_cause c.args.number c.args.limit (setting_of p) c.calls_for-calls.result fault
+    (part_cause _ _ (setting_of c.args.prepared.now) _ _
     (by_calls g (goal.at.returns-in_err-explored-clause-err g c).After-calls_for-calls)
     (rw (← c.part.ensures, ← c.as_slice-scripts.ensures.value) c.in_err-explored.ensures.full))

@@ -1,8 +1,7 @@
 -- What holds on the machine where the search begins holds in the scenario.
-use Rattle.std.proofs.Common.{List, string_bytes, subst, ℕ}
+use Rattle.std.proofs.Common.{string_bytes}
 use Rattle.std.proofs.lemmas.Result.{err_from_is_err_and}
 use Rattle.hp_explore.specs.Faults.{IsCause}
-use Rattle.hp_search.specs.Prepared.{names_of, setting_of}
 use Rattle.hp_search.proofs.Known.{held_in, unprepared_known, untold, untold_in}
 use Rattle.hp_part_files.specs.Parts.{IsPartCause, IsPartOn}
 use Rattle.hp_part_files.proofs.Parted.{full_part, no_text, part_fault}
@@ -13,49 +12,33 @@ returns-in_default-clause-err g c = no_text c.args.input.now c.args.setup c.in_d
 
 pub returns-in_err-prepared-clause-err : goal.returns-in_err-prepared-clause-err
 returns-in_err-prepared-clause-err g c =
-    let p =
-    err_from_is_err_and c.from_residual.result c.from_residual.ensures.1 in
-    rw (p.1, p.2)
-    (unprepared_known IsCause c.args.input.now c.args.setup _ c.in_err-prepared.ensures.err)
+    let p = err_from_is_err_and c.from_residual.result c.from_residual.ensures.1 in
+    rw (p.1, p.2) (unprepared_known IsCause _ _ _ c.in_err-prepared.ensures.err)
 
 pub returns-in_err-prepared-clause-full : goal.returns-in_err-prepared-clause-full
 returns-in_err-prepared-clause-full g c =
-    let p =
-    err_from_is_err_and c.from_residual.result c.from_residual.ensures.1 in
+    let p = err_from_is_err_and c.from_residual.result c.from_residual.ensures.1 in
     rw (p.1, p.2)
-    (full_part c.args.number c.args.input.now c.args.setup c.args.limit _
-    (unprepared_known (IsPartCause c.args.number c.args.limit) c.args.input.now c.args.setup _
-    c.in_err-prepared.ensures.err))
+    (full_part _ _ _ _ _
+    (unprepared_known (IsPartCause c.args.number c.args.limit) _ _ _ c.in_err-prepared.ensures.err))
 
 pub returns-in-Ok-part_on-clause-ok : goal.returns-in-Ok-part_on-clause-ok
 returns-in-Ok-part_on-clause-ok g c =
-    let n = c.args.number in
-    let input = c.args.input.now in
-    let p = c.in_ok-prepared.prepared in
     let f = c.in-Ok-part_on.finding in
-    let ended : Type 0 = g.W.Watch.has_ended c.part_on.new.watch in
     held_in
-    (λ names before s. IsPartOn n c.args.setup input c.args.limit ended (string_bytes f.text)
-    f.is_found names s)
-    input c.args.setup p c.in_ok-prepared.ensures.ok
+    (λ names before s. IsPartOn c.args.number c.args.setup c.args.input.now c.args.limit
+    (g.W.Watch.has_ended c.part_on.new.watch) (string_bytes f.text) f.is_found names s)
+    _ _ _ c.in_ok-prepared.ensures.ok
     (rw (c.in-Ok.ensures.0, c.in_ok-prepared.ensures.ok.number) at c.in-Ok-part_on.ensures.ok)
 
 pub returns-clause-err : goal.returns-clause-err
 returns-clause-err g c =
-    let n = c.args.number in
-    let p = c.in_ok-prepared.prepared in
-    let told = c.told_fault.result in
-    part_fault n c.args.input.now c.args.setup c.args.limit told
-    (untold_in (IsPartCause n c.args.limit) c.args.input.now c.args.setup p told c.in_ok-prepared.ensures.ok
-    (untold (IsPartCause n c.args.limit) (setting_of p) c.in-Err.fault told c.told_fault.ensures
-    c.in-Err.ensures.err))
+    part_fault _ _ _ _ _
+    (untold_in (IsPartCause c.args.number c.args.limit) _ _ _ _ c.in_ok-prepared.ensures.ok
+    (untold (IsPartCause c.args.number c.args.limit) _ _ _ c.told_fault.ensures c.in-Err.ensures.err))
 
 pub returns-clause-full : goal.returns-clause-full
 returns-clause-full g c =
-    let n = c.args.number in
-    let p = c.in_ok-prepared.prepared in
-    let told = c.told_fault.result in
-    full_part n c.args.input.now c.args.setup c.args.limit told
-    (untold_in (IsPartCause n c.args.limit) c.args.input.now c.args.setup p told c.in_ok-prepared.ensures.ok
-    (untold (IsPartCause n c.args.limit) (setting_of p) c.in-Err.fault told c.told_fault.ensures
-    c.in-Err.ensures.err))
+    full_part _ _ _ _ _
+    (untold_in (IsPartCause c.args.number c.args.limit) _ _ _ _ c.in_ok-prepared.ensures.ok
+    (untold (IsPartCause c.args.number c.args.limit) _ _ _ c.told_fault.ensures c.in-Err.ensures.err))

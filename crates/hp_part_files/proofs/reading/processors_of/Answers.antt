@@ -8,20 +8,16 @@ use Rattle.hp_part_files.proofs.reading.processors_of.Goals as goal
 pub returns-in_default : goal.returns-in_default
 returns-in_default c =
     none_of BadShape _
-    (stops processor_of c.deref-value-items.result.now c.args.values.now.items c.loop-value.value-index
-    c.value-item.result c.loop-value.processors.items _ c.deref-value-items.ensures.value
-    c.loop-value-test.true c.value-item.is (sym c.in_default.ensures) c.loop-value.invariant)
+    (stops processor_of _ _ _ _ _ _ c.deref-value-items.ensures.value c.loop-value-test.true
+    c.value-item.is (sym c.in_default.ensures) c.loop-value.invariant)
 
 pub loop-value-preserved : goal.loop-value-preserved
 loop-value-preserved c =
-    goes_on processor_of c.deref-value-items.result.now c.args.values.now.items c.loop-value.value-index
-    c.value-item.result c.loop-value.processors.items c.push.new.self.items c.in-Some.cpu _
-    c.deref-value-items.ensures.value c.loop-value-test.true c.value-item.is (sym c.in-Some.ensures)
-    c.in_ok-push.ensures.items c.loop-value.invariant
+    goes_on processor_of _ _ _ _ _ _ _ _ c.deref-value-items.ensures.value c.loop-value-test.true
+    c.value-item.is (sym c.in-Some.ensures) c.in_ok-push.ensures.items c.loop-value.invariant
 
 pub returns : goal.returns
 returns c =
     some_of BadShape _ _
-    (is_done processor_of c.deref-value-items.result.now c.args.values.now.items c.loop-value.value-index
-    c.loop-value.processors.items _ c.deref-value-items.ensures.value c.loop-value-test.false
+    (is_done processor_of _ _ _ _ _ c.deref-value-items.ensures.value c.loop-value-test.false
     c.loop-value.invariant)

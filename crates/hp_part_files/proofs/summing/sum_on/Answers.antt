@@ -1,12 +1,11 @@
-use Rattle.std.proofs.Common.{inl, inr, string_bytes}
+use Rattle.std.proofs.Common.{inl, inr}
 use Rattle.std.proofs.lemmas.Result.{IfErr-weaker, IfOk-weaker, err_from_is_err_and}
 use Rattle.hp_part_files.specs.Ordering.{lists_of}
 use Rattle.hp_part_files.proofs.summing.sum_on.Goals as goal
 
 pub returns-in_err-ends-clause-err : goal.returns-in_err-ends-clause-err
 returns-in_err-ends-clause-err c =
-    let p =
-    err_from_is_err_and c.from_residual-in_err-ends.result c.from_residual-in_err-ends.ensures.1 in
+    let p = err_from_is_err_and c.from_residual-in_err-ends.result c.from_residual-in_err-ends.ensures.1 in
     rw (p.1, p.2)
     (inr (inr (inr (inr (record {
       parts = c.in_ok-parts.parts.items;
@@ -20,8 +19,7 @@ returns-in_err-ends-clause-err c =
 
 pub returns-in_err-lists-clause-err : goal.returns-in_err-lists-clause-err
 returns-in_err-lists-clause-err c =
-    let p =
-    err_from_is_err_and c.from_residual-in_err-lists.result c.from_residual-in_err-lists.ensures.1 in
+    let p = err_from_is_err_and c.from_residual-in_err-lists.result c.from_residual-in_err-lists.ensures.1 in
     rw (p.1, p.2)
     (inr (inr (inr (inr (record {
       parts = c.in_ok-parts.parts.items;
@@ -30,8 +28,7 @@ returns-in_err-lists-clause-err c =
     })))))
 
 pub returns-clause-err : goal.returns-clause-err
-returns-clause-err c =
-    IfErr-weaker c.told.result _ _ (λ fault h. inl h) c.told.ensures.err
+returns-clause-err c = IfErr-weaker c.told.result _ _ (λ fault h. inl h) c.told.ensures.err
 
 pub returns-clause-ok : goal.returns-clause-ok
 returns-clause-ok c =

@@ -1,7 +1,5 @@
 -- The history has no room only for a call of the schedule that is played.
-use Rattle.std.proofs.Common.{◌≡◌, ℕ, List, refl, subst}
-use Rattle.hp_schedules.specs.declared.scripts.Step.{Step}
-use Rattle.hp_schedules.specs.Parts.{PartValue}
+use Rattle.std.proofs.Common.{◌≡◌, ℕ, List, refl}
 use Rattle.hp_schedules.specs.Schedules.{Setting}
 use Rattle.hp_explore.specs.Faults.{FillsAlong}
 use Rattle.hp_explore.specs.Settings.{setting}
@@ -9,7 +7,6 @@ use Rattle.hp_explore.specs.declared.exploring.ExploreFault.{ExploreFault}
 use Rattle.hp_explore.specs.declared.exploring.ExploreFault.TheVariants as explore
 use Rattle.hp_search.specs.Prepared.{setting_of}
 use Rattle.hp_search.proofs.Known.{untold}
-use Rattle.hp_part_files.specs.Ends.{IsEndOf}
 use Rattle.hp_part_files.specs.Faults.{IsCauseAlong}
 use Rattle.hp_part_files.proofs.taking.outcome_of.Goals as goal
 

@@ -1,6 +1,4 @@
-use Rattle.std.proofs.Common.{◌≡◌, ℕ, ◌+◌, subst, sym, ◌∙◌}
-use Rattle.hp_search.specs.Prepared.{names_of, setting_of}
-use Rattle.hp_part_files.specs.Texts.{end_line}
+use Rattle.std.proofs.Common.{sym, ◌∙◌}
 use Rattle.std.proofs.lemmas.Bool.{false≢true}
 use Rattle.hp_part_files.proofs.taking.push_end.Goals as goal
 
