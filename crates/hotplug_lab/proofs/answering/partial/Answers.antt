@@ -1,7 +1,7 @@
 -- The text says so, whatever ended the search.
 use Rattle.std.proofs.Common.{List, ℕ, string_bytes, subst, sym}
 use Rattle.hp_part_files.specs.Parts.{IsPartOf}
-use Rattle.hp_part_files.proofs.Parted.{loosely}
+use Rattle.hotplug_lab.proofs.PartTexts.{loosely}
 use Rattle.hotplug_lab.proofs.answering.partial.Goals as goal
 
 pub returns-clause-ok : goal.returns-clause-ok
