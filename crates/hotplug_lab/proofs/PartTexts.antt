@@ -5,7 +5,7 @@ use Rattle.hp_schedules.specs.PartNumbers.{NumberValue}
 use Rattle.hp_schedules.specs.Schedules.{Setting}
 use Rattle.hp_schedules.specs.declared.multinomials.HowMany.{HowMany}
 use Rattle.hp_schedules.specs.declared.tally.Ending.{Ending}
-use Rattle.hp_part_files.specs.Parts.{ArePartEnds, IsPartOf}
+use Rattle.hp_parts.specs.Parts.{ArePartEnds, IsPartOf}
 
 part_loosely : (g : Setting) (part : PartValue) (limit : ℕ) (ended : Type 0) (ends : List Ending)
     (more : Option HowMany)

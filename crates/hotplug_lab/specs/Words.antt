@@ -2,7 +2,7 @@
 use Rattle.std.specs.Prelude.{◌≡◌, ◌⊎◌, ℕ, ◌<◌, ◌≤◌, Bool, List, length, Option, IfSome, if◌then◌else◌}
 use Rattle.std.specs.Io.KnownBytes.{Appends}
 use Rattle.hp_questions.specs.declared.wanted.Wanted.{Wanted}
-use Rattle.hp_search.specs.Explorations.{IsExplorationOf, IsFaultWithin}
+use Rattle.hp_parts.specs.Explorations.{IsExplorationOf, IsFaultWithin}
 use Rattle.hp_search.specs.Findings.{IsFindFaultOf, IsFindingOf}
 use Rattle.hp_search.specs.Faults.{IsFaultOf}
 use Rattle.hp_schedules.specs.PartNumbers.{NumberValue}
@@ -12,9 +12,9 @@ use Rattle.hp_scenario.specs.Gives.{Fails}
 use Rattle.hp_scripts.specs.Named.{named_in}
 use Rattle.hp_scenario.specs.declared.fault.ScenarioFault.{ScenarioFault}
 use Rattle.hp_streams.specs.Reading.{limit}
-use Rattle.hp_part_files.specs.Faults.{IsSumFault}
-use Rattle.hp_part_files.specs.Parts.{IsFullPart, IsPartOf}
-use Rattle.hp_part_files.specs.Sums.{IsSumOf}
+use Rattle.hp_parts.specs.Faults.{IsSumFault}
+use Rattle.hp_parts.specs.Parts.{IsFullPart, IsPartOf}
+use Rattle.hp_parts.specs.Sums.{IsSumOf}
 use Rattle.hp_lab_shell.specs.Checks.{IsCheckOf}
 use Rattle.hp_lab_shell.specs.Shown.{HasJson, HasLog, HasRows, HasTrace}
 use Rattle.hp_search.specs.declared.found.FindResult.{FindResult}

@@ -5,12 +5,11 @@ ghost use Rattle.hotplug_lab.specs.Words.{IsAddedOf, IsAnswerOf, IsExploringOf, 
 ghost use Rattle.hp_lab_shell.specs.declared.words.Word.TheVariants.{Explore, Find, Never, Part, Sum};
 
 use hp_lab_shell::{ExploreOptions, TextAndStatus, Word, checked, drawn, logged, told, traced};
-use hp_part_files::{part_text, sum_text};
+use hp_parts::{explore_text, part_text, sum_text};
 use hp_questions::Wanted;
 use hp_schedules::ShardId;
 use hp_search::{
-    EndsForm, FindResult, FindText, GroupBy, LabProgramFault, ScheduleForm, SearchText,
-    explore_text, find_text,
+    EndsForm, FindResult, FindText, GroupBy, LabProgramFault, ScheduleForm, SearchText, find_text,
 };
 use hp_states::Watch;
 use std::alloc::Global;

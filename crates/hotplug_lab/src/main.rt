@@ -1,11 +1,11 @@
 //! Looks into scenarios of the memory machine: `hotplug_lab WORD` reads a file or standard input,
 //! and writes to standard output.
 //!
-//! Libraries write the texts. hp_check writes that of `check`. hp_search writes that of `explore`,
-//! and hp_part_files that of its parts and their `sum`. hp_trace writes that of `trace` and its
-//! log, and hp_svg its picture. hp_verdicts writes that of `judge`, and hp_explain that of
-//! `explain`. hp_lab_shell has the command line, the files and the messages, and runs `judge`,
-//! `explain` and `live`; this program runs the other commands.
+//! Libraries write the texts. hp_check writes that of `check`. hp_parts writes that of `explore`,
+//! of its parts and of their `sum`, and hp_search that of `explore --find`. hp_trace writes that of
+//! `trace` and its log, and hp_svg its picture. hp_verdicts writes that of `judge`, and hp_explain
+//! that of `explain`. hp_lab_shell has the command line, the files and the messages, and runs
+//! `judge`, `explain` and `live`; this program runs the other commands.
 //!
 //! The exit status is:
 //! - 1 after a fault, which standard error names, and after a check that finds faults,

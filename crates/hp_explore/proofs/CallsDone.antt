@@ -12,9 +12,8 @@ use Rattle.hp_states.proofs.Rooms.{push_extends, was_room}
 use Rattle.hp_explore.specs.Aims.{AimValue, IsDone, IsLawful, IsNarrower, MayBeSkipped}
 use Rattle.hp_explore.specs.Reaching.{HasRoomAlong}
 use Rattle.hp_explore.specs.Searches.{AreTriedTo, IsCallDone, IsTriedTo, number_at}
-use Rattle.hp_explore.proofs.Continued.{call_within}
+use Rattle.hp_explore.proofs.Continued.{call_within, extends_longer}
 use Rattle.hp_explore.proofs.Rotations.{same_cpu}
-use Rattle.hp_explore.proofs.Orders.{extends_longer}
 
 -- ---- one call
 

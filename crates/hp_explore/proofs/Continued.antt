@@ -5,6 +5,7 @@ use Rattle.std.proofs.lemmas.List.{append-nil, append_assoc, length-append, leng
 use Rattle.std.proofs.lemmas.Option.{none-some, same_Some}
 use Rattle.hp_units.specs.declared.events.Event.{Event}
 use Rattle.hp_units.specs.declared.replies.Record.{Record}
+use Rattle.hp_schedules.specs.Orders.{Extends}
 use Rattle.hp_schedules.specs.Schedules.{Setting, next_call, play_one, plays, record_of_call, schedule_of}
 use Rattle.hp_schedules.proofs.Plays.{asks_within, from_news, plays_on, plays_one, stays_none, plays_push}
 use Rattle.std.proofs.lemmas.Bool.Decides.{nat_tests}
@@ -65,6 +66,13 @@ call_within g p rest cpu end whole = by_place (plays g p) refl
         first_played g cpu rest news end (sym (plays_on g p (cpu ∷ rest)
         ∙ ap (λ (o : Option (List Record)). fold (play_one g) o (cpu ∷ rest)) is) ∙ whole) in
         asks_within g news cpu one.0 one.1
+
+-- ---- what a schedule goes on from
+
+-- a longer one goes on from it too
+pub extends_longer : (s p : List ℕ) (cpu : ℕ) → Extends s p → Extends (s ++ cpu ∷ []) p
+extends_longer s p cpu on =
+    (on.0 ++ cpu ∷ [], ap (λ (t : List ℕ). t ++ cpu ∷ []) on.1 ∙ append_assoc p on.0 (cpu ∷ []))
 
 -- ---- a full history has no room for later calls
 

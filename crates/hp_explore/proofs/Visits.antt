@@ -21,7 +21,7 @@ use Rattle.hp_explore.specs.Aims.{AimValue, IsDone, IsLawful, IsNarrower}
 use Rattle.hp_explore.specs.Visited.{AreVisited, IsKept, IsKnown, IsPlaceKey, IsVisited, no_stops, IsWritten}
 use Rattle.hp_explore.specs.declared.visited.Visited.{Visited}
 use Rattle.hp_explore.proofs.PlaceKeys.{done_alike, keys_alike}
-use Rattle.hp_explore.proofs.Orders.{extends_longer}
+use Rattle.hp_explore.proofs.Continued.{extends_longer}
 use Rattle.hp_questions.specs.declared.wanted.Wanted.{Wanted}
 use Rattle.hp_explore.specs.Withins.{aim_within}
 

@@ -1,4 +1,3 @@
-pub mod Adding
 pub mod Aims
 pub mod CausesBelow
 pub mod Changes
@@ -15,7 +14,6 @@ pub mod Reaching
 pub mod Searches
 pub mod Settings
 pub mod SteeredBelow
-pub mod Sums
 pub mod Visited
 pub mod Walks
 pub mod Withins

@@ -10,7 +10,6 @@ use crate::Watch;
 use crate::absent::is_absent;
 use crate::changes::changes_of;
 use crate::fault::FindFault;
-use crate::jobs::MOST_JOBS;
 use crate::within::first_within;
 use hp_machine::Machine;
 use hp_questions::Wanted;
@@ -19,6 +18,9 @@ use hp_units::Cpu;
 use std::alloc::Global;
 use std::sync::Wait;
 use std::thread::Threads;
+
+/// The largest number of threads of a search.
+pub const MOST_JOBS: u32 = 256;
 
 /// The search tries the schedules with fewer changes than this before it tries all.
 const FEW: u64 = 3;

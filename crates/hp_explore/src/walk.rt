@@ -17,7 +17,7 @@ use crate::path::Path;
 use crate::turns::latest;
 use hp_machine::Machine;
 use hp_schedules::{CallScript, Ending, Shard, Tally, are_mergeable, is_closed};
-use hp_states::{Entry, Level, Memo, Reach, Watch, arrive, leave, note};
+use hp_states::{Level, Memo, Reach, Treatment, Watch, arrive, leave, note};
 use std::alloc::{AllocError, Global};
 
 /// The result of one step of a walk.
@@ -220,7 +220,7 @@ impl<'a> Walk<'a> {
         self.path.is_played();
         let bytes = self.memo.bytes();
         self.reach.ask(bytes, watch);
-        let entry = arrive(
+        let treatment = arrive(
             alloc,
             self.path.records(),
             self.path.memory(),
@@ -232,11 +232,11 @@ impl<'a> Walk<'a> {
             &mut self.memo,
             watch,
         )?;
-        match entry {
-            Entry::Counted => {
+        match treatment {
+            Treatment::Counted => {
                 take_back(&mut self.path, &mut self.memo);
             }
-            Entry::Open(frame) => self.frames.push_reserved(frame),
+            Treatment::Open(frame) => self.frames.push_reserved(frame),
         }
         Ok(())
     }

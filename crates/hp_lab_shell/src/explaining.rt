@@ -129,7 +129,7 @@ fn write_told(
 ) -> Result<u8, LabProgramFault> {
     let mut writer = Output::new(rt.stdout());
     match write_all(&mut writer, told.text.as_bytes()) {
-        Ok(()) => Ok(told_status(rt, form, told.result)),
+        Ok(()) => Ok(explained_status(rt, form, told.result)),
         Err(Failed) => {
             if writer.is_left() {
                 Ok(1)
@@ -142,7 +142,7 @@ fn write_told(
 
 /// Returns the exit status for the result of the search. If a scenario was asked for and none is
 /// written, reports that on standard error.
-fn told_status(rt: &HostRuntime, form: ScheduleForm, found: ExplainResult) -> u8
+fn explained_status(rt: &HostRuntime, form: ScheduleForm, found: ExplainResult) -> u8
     ensures { result ≡ explain_status found }
 {
     match found {

@@ -169,14 +169,14 @@ fn status_of(rt: &HostRuntime, file: Option<&str>, judged: Result<u8, JudgeFault
             2
         }
         Err(fault) => {
-            say_fault(rt, file, fault);
+            say_judge_fault(rt, file, fault);
             1
         }
     }
 }
 
 /// Prints on standard error why a log was not judged.
-fn say_fault(rt: &HostRuntime, file: Option<&str>, fault: JudgeFault) {
+fn say_judge_fault(rt: &HostRuntime, file: Option<&str>, fault: JudgeFault) {
     match fault {
         JudgeFault::Log(LogFault::ReadFailed) => say_of_file(rt, file, "reading failed"),
         JudgeFault::Log(LogFault::Line { number, fault }) => say_line(rt, number, fault),

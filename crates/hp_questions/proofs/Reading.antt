@@ -1,9 +1,8 @@
 -- The ends of plans as they are read, reply by reply.
-use Rattle.std.proofs.Common.{◌≡◌, ℕ, ◌<◌, List, [], ◌∷◌, ◌++◌, length, get_or, Option, Some, None, slice_get, refl, ap, sym, ◌∙◌}
+use Rattle.std.proofs.Common.{◌≡◌, ℕ, List, [], ◌∷◌, ◌++◌, length, Option, Some, None, refl, ap, sym, ◌∙◌}
 use Rattle.std.specs.Option.{option_to_list}
 use Rattle.std.proofs.lemmas.List.{append-nil, append_assoc}
 use Rattle.std.proofs.lemmas.List.Sums.{fold-append}
-use Rattle.std.proofs.lemmas.Option.{slice_get-get_or}
 use Rattle.hp_units.specs.Boot.{boot_memory}
 use Rattle.hp_units.specs.LayoutParts.{LayoutParts}
 use Rattle.hp_units.specs.Receipts.{receipts_of}
@@ -11,7 +10,7 @@ use Rattle.hp_units.specs.declared.events.Event.{Event}
 use Rattle.hp_units.specs.declared.replies.OpEnd.{OpEnd}
 use Rattle.hp_units.specs.declared.replies.Record.{Record}
 use Rattle.hp_units.specs.declared.replies.Reply.{Reply}
-use Rattle.hp_questions.specs.PlanEnds.{end_finished, ends_answered, plan_ends, receipts_by, with_reply}
+use Rattle.hp_questions.specs.PlanEnds.{AreRead, end_finished, ends_answered, plan_ends, receipts_by, with_reply}
 use Rattle.hp_schedules.specs.Cursors.{AreCursors, IsCalledFor}
 use Rattle.hp_schedules.specs.LineAnswers.{IsAnswered, answers_at}
 use Rattle.hp_schedules.specs.Schedules.{Setting, next_call}
@@ -25,7 +24,7 @@ use Rattle.hp_schedules.proofs.AnswersAt.{of_script}
 use Rattle.hp_schedules.proofs.LineAnswers.{none_begun}
 use Rattle.hp_schedules.proofs.Steps.{receipts_own}
 
--- ---- a setting for the scripts: any will do
+-- ---- a setting for the script: any will do
 
 abbrev layout_for : (cpus : ℕ) → LayoutParts
 layout_for cpus = record {
@@ -42,13 +41,13 @@ layout_for cpus = record {
   boot = [];
 }
 
-abbrev setting_for : (cpus : ℕ) → List (List Step) → Setting
-setting_for cpus scripts = record {
+abbrev setting_for : (cpus : ℕ) → List Step → Setting
+setting_for cpus lines = record {
   layout = layout_for cpus;
   base = boot_memory (layout_for cpus);
   before = 0;
   start = [];
-  scripts = scripts;
+  scripts = lines ∷ [];
 }
 
 -- the ends with further answers, and with one more
@@ -65,46 +64,31 @@ ends_more old new (Some f) is = rw (is.1, ends_append old (f.answer ∷ []), app
 -- ---- the replies so far
 
 -- the record of a call, without a serial
-abbrev pub called : (cpu : ℕ) → Event → Reply → Record
-called cpu event reply = record { serial = 0; cpu = cpu; event = event; reply = reply }
+abbrev pub called : Event → Reply → Record
+called event reply = record { serial = 0; cpu = 0; event = event; reply = reply }
 
--- the replies are read: the cursors are after the calls that got them, and the ends are theirs
-pub record IsRead (cpus : ℕ) (scripts : List (List Step)) (cpu : ℕ) (cursors : List Cursor)
-    (news : List Record) (replies : List Reply) (ends : List OpEnd) : Type 0 where
-  pub many : length cursors ≡ length scripts
-  pub at : (g : Setting) → g.scripts ≡ scripts → g.layout.cpus ≡ cpus → AreCursors g news cursors
-  pub receipts : receipts_of cpu news ≡ receipts_by cpus (get_or scripts cpu []) replies
-  pub ends_are : ends ≡ plan_ends cpus (get_or scripts cpu []) replies
-
-module _ (cpus : ℕ) (scripts : List (List Step)) (cpu : ℕ) where
-  pub read_none : (cursors : List Cursor) (ends : List OpEnd) → length cursors ≡ length scripts
-      → ((g : Setting) → g.scripts ≡ scripts → g.layout.cpus ≡ cpus → AreCursors g [] cursors) → ends ≡ []
-      → IsRead cpus scripts cpu cursors [] [] ends
+module _ (cpus : ℕ) (lines : List Step) where
+  pub read_none : (cursors : List Cursor) (ends : List OpEnd) → length cursors ≡ 1
+      → ((g : Setting) → g.scripts ≡ lines ∷ [] → g.layout.cpus ≡ cpus → AreCursors g [] cursors) → ends ≡ []
+      → AreRead cpus lines [] cursors [] ends
   unfolding plan_ends
   read_none cursors ends many begun none = record {
     many = many;
     at = begun;
     receipts = refl;
-    ends_are = none ∙ ap ends_answered (sym (none_begun cpus (get_or scripts cpu [])));
+    ends_are = none ∙ ap ends_answered (sym (none_begun cpus lines));
   }
 
-  abbrev lines : List Step
-  lines = get_or scripts cpu []
-
   abbrev g : Setting
-  g = setting_for cpus scripts
+  g = setting_for cpus lines
 
   module _ (cursors : List Cursor) (news : List Record) (replies : List Reply) (ends : List OpEnd)
-      (reply : Reply) (within : cpu < length scripts)
-      (a : IsRead cpus scripts cpu cursors news replies ends) where
-    here : slice_get scripts cpu ≡ Some lines
-    here = slice_get-get_or scripts cpu [] within
-
+      (reply : Reply) (a : AreRead cpus lines replies cursors news ends) where
     -- what the script calls next
-    asked_for : (next : Option Event) → next_call g cpu news ≡ next
+    asked_for : (next : Option Event) → next_call g 0 news ≡ next
         → next_of cpus lines (receipts_by cpus lines replies) ≡ next
     unfolding next_call
-    asked_for next is = rw (← a.receipts) (rw here at is)
+    asked_for next is = rw (← a.receipts) is
 
     -- the receipts with one reply more
     receipts_more : receipts_by cpus lines (replies ++ reply ∷ [])
@@ -112,9 +96,9 @@ module _ (cpus : ℕ) (scripts : List (List Step)) (cpu : ℕ) where
     receipts_more = fold-append (with_reply cpus lines) [] replies (reply ∷ [])
 
     -- the script is over
-    pub read_past : ((g : Setting) → g.scripts ≡ scripts → g.layout.cpus ≡ cpus
-        → AreCursors g news cursors → IsCalledFor g cpu news None)
-        → IsRead cpus scripts cpu cursors news (replies ++ reply ∷ []) ends
+    pub read_past : ((g : Setting) → g.scripts ≡ lines ∷ [] → g.layout.cpus ≡ cpus
+        → AreCursors g news cursors → IsCalledFor g 0 news None)
+        → AreRead cpus lines (replies ++ reply ∷ []) cursors news ends
     unfolding plan_ends
     read_past asked =
         let over = asked_for None (asked g refl refl (a.at g refl refl)) in
@@ -125,17 +109,17 @@ module _ (cpus : ℕ) (scripts : List (List Step)) (cpu : ℕ) where
     -- one call more
     pub read_more : (later : List Cursor) (new : List OpEnd) (call : NextCall) (event : Event)
         (f : Option FinishedLine) → event ≡ call.event
-        → ((g : Setting) → g.scripts ≡ scripts → g.layout.cpus ≡ cpus
-        → AreCursors g news cursors → IsCalledFor g cpu news (Some call))
+        → ((g : Setting) → g.scripts ≡ lines ∷ [] → g.layout.cpus ≡ cpus
+        → AreCursors g news cursors → IsCalledFor g 0 news (Some call))
         → length later ≡ length cursors
-        → ((g : Setting) (news : List Record) → g.scripts ≡ scripts → g.layout.cpus ≡ cpus
-        → AreCursors g news cursors → IsCalledFor g cpu news (Some call)
-        → AreCursors g (news ++ called cpu event reply ∷ []) later)
-        → ((g : Setting) (news : List Record) → g.scripts ≡ scripts → next_call g cpu news ≡ Some event
-        → AreCursors g (news ++ called cpu event reply ∷ []) later
-        → IsAnswered (answers_at g cpu news) f (answers_at g cpu (news ++ called cpu event reply ∷ [])))
+        → ((g : Setting) (news : List Record) → g.scripts ≡ lines ∷ [] → g.layout.cpus ≡ cpus
+        → AreCursors g news cursors → IsCalledFor g 0 news (Some call)
+        → AreCursors g (news ++ called event reply ∷ []) later)
+        → ((g : Setting) (news : List Record) → g.scripts ≡ lines ∷ [] → next_call g 0 news ≡ Some event
+        → AreCursors g (news ++ called event reply ∷ []) later
+        → IsAnswered (answers_at g 0 news) f (answers_at g 0 (news ++ called event reply ∷ [])))
         → new ≡ ends ++ option_to_list (end_finished f)
-        → IsRead cpus scripts cpu later (news ++ called cpu event reply ∷ []) (replies ++ reply ∷ []) new
+        → AreRead cpus lines (replies ++ reply ∷ []) later (news ++ called event reply ∷ []) new
     unfolding plan_ends
     read_more later new call event f event_is asked many on answered new_is = record {
       many = many ∙ a.many;
@@ -147,24 +131,24 @@ module _ (cpus : ℕ) (scripts : List (List Step)) (cpu : ℕ) where
             a.ends_are,
             ← receipts,
             ← a.receipts,
-            ← of_script g cpu news lines here,
-            ← of_script g cpu all lines here,
+            ← of_script g 0 news lines refl,
+            ← of_script g 0 all lines refl,
           )
-          (sym (ends_more (answers_at g cpu news) (answers_at g cpu all) f
+          (sym (ends_more (answers_at g 0 news) (answers_at g 0 all) f
           (answered g news refl next (on g news refl refl (a.at g refl refl)
           (asked g refl refl (a.at g refl refl))))));
     }
       where
         all : List Record
-        all = news ++ called cpu event reply ∷ []
+        all = news ++ called event reply ∷ []
 
-        next : next_call g cpu news ≡ Some event
+        next : next_call g 0 news ≡ Some event
         next = rw event_is (asked g refl refl (a.at g refl refl)).0
 
-        receipts : receipts_of cpu all ≡ receipts_by cpus lines (replies ++ reply ∷ [])
+        receipts : receipts_of 0 all ≡ receipts_by cpus lines (replies ++ reply ∷ [])
         receipts =
             rw (
-              receipts_own news (called cpu event reply),
+              receipts_own news (called event reply),
               a.receipts,
               receipts_more,
               asked_for (Some event) next,

@@ -1,12 +1,17 @@
 -- The ends of a script's plans, computed from the replies to its processor alone.
-use Rattle.std.specs.Prelude.{ℕ, List, [], ◌∷◌, ◌++◌, Option, Some, None, fold, length, map, slice_index_or}
+use Rattle.std.specs.Prelude.{◌≡◌, ℕ, List, [], ◌∷◌, ◌++◌, Option, Some, None, fold, length, map, slice_index_or}
 use Rattle.std.specs.List.{range_with_len}
 use Rattle.std.specs.Option.{option_and_then, option_map_or, option_to_list}
+use Rattle.hp_units.specs.Receipts.{receipts_of}
 use Rattle.hp_units.specs.declared.replies.OpEnd.{OpEnd}
 use Rattle.hp_units.specs.declared.replies.Receipt.{Receipt}
+use Rattle.hp_units.specs.declared.replies.Record.{Record}
 use Rattle.hp_units.specs.declared.replies.Reply.{Reply}
+use Rattle.hp_schedules.specs.Cursors.{AreCursors}
 use Rattle.hp_schedules.specs.LineAnswers.{answers_in}
+use Rattle.hp_schedules.specs.Schedules.{Setting}
 use Rattle.hp_schedules.specs.Scripts.{next_of}
+use Rattle.hp_schedules.specs.declared.cursors.Cursor.{Cursor}
 use Rattle.hp_schedules.specs.declared.line_answers.FinishedLine.{FinishedLine}
 use Rattle.hp_schedules.specs.declared.line_answers.LineAnswer.{LineAnswer}
 use Rattle.hp_schedules.specs.declared.line_answers.LineAnswer.TheVariants.{Plan as Carried}
@@ -40,6 +45,15 @@ ends_answered (answer ∷ answers) = option_to_list (end_answered answer) ++ end
 -- the ends of a script's finished plans, in the order of its lines
 unfoldable pub plan_ends : (cpus : ℕ) → List Step → List Reply → List OpEnd
 plan_ends cpus lines replies = ends_answered (answers_in cpus lines (receipts_by cpus lines replies))
+
+-- the replies are read: `news` has the script's calls that got them, the one cursor is the script's
+-- position after these calls, and the ends are those of the replies
+pub record AreRead (cpus : ℕ) (lines : List Step) (replies : List Reply) (cursors : List Cursor)
+    (news : List Record) (ends : List OpEnd) : Type 0 where
+  pub many : length cursors ≡ 1
+  pub at : (g : Setting) → g.scripts ≡ lines ∷ [] → g.layout.cpus ≡ cpus → AreCursors g news cursors
+  pub receipts : receipts_of 0 news ≡ receipts_by cpus lines replies
+  pub ends_are : ends ≡ plan_ends cpus lines replies
 
 -- the ends of the plans of this processor's script, from the replies to each processor
 abbrev pub plan_ends_of : (cpus : ℕ) → List (List Step) → List (List Reply) → (cpu : ℕ) → List OpEnd

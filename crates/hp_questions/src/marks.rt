@@ -5,10 +5,11 @@ ghost use Rattle.hp_schedules.specs.declared.scripts.Step.{Step};
 ghost use Rattle.hp_schedules.specs.Outcomes.{replies_below, replies_to, told};
 ghost use Rattle.hp_questions.specs.Marks.{AreCountedIf, AreMarks, AreMet, HasLineSoFar, HasReplySoFar, IsLost, IsMissed, IsRuledOut, asks_no_places, asks_no_plans, leaves_places, leaves_plans, line_of};
 ghost use Rattle.hp_questions.specs.Wanted.{HasAnswer, HasAnswerAt, HasReply};
+ghost use Rattle.hp_questions.specs.declared.wanted.Pattern.TheVariants.{AnyOf, Exactly};
 
-use crate::wanted::{EndLine, Pattern, Wanted};
+use crate::wanted::{EndLine, Pattern, Wanted, is_of_kind, kind_of};
 use hp_schedules::{CallScript, all_answers};
-use hp_units::{Cpu, Record, Reply, Serial};
+use hp_units::{Cpu, Record, Refusal, Reply, Serial};
 use std::alloc::{AllocError, Global};
 
 /// Appends the marks of the place in a search to which these records lead. The first mark is the
@@ -285,12 +286,48 @@ fn is_told_to_any(reply: &Pattern, processors: u32, records: &[Record]) -> bool
 fn is_told(reply: &Pattern, cpu: Cpu, records: &[Record]) -> bool
     ensures { IsTrue result ↔ HasReply reply.now (replies_to cpu records.now) }
 {
+    match reply {
+        Pattern::Exactly(wanted) => is_told_exactly(wanted, cpu, records),
+        Pattern::AnyOf(wanted) => is_refused(*wanted, cpu, records),
+    }
+}
+
+/// Returns whether the processor got the reply `wanted`, as an end has it.
+fn is_told_exactly(wanted: &Reply, cpu: Cpu, records: &[Record]) -> bool
+    ensures { IsTrue result ↔ HasReply (Exactly wanted.now) (replies_to cpu records.now) }
+{
     for record in records {
         if record.cpu != cpu {
             continue;
         }
-        let answer = told(&record.reply);
-        if reply.is_met_by(&answer) {
+        if is_told_as(wanted, &record.reply) {
+            return true;
+        }
+    }
+    false
+}
+
+/// Returns whether [`told`] returns `wanted` for the reply. Copies no reply.
+fn is_told_as(wanted: &Reply, reply: &Reply) -> bool
+    ensures { IsTrue result ↔ (told reply.now ≡ wanted.now) }
+{
+    match reply {
+        Reply::Opened { .. } => Reply::Opened { op: Serial(0) }.same(wanted),
+        _ => reply.same(wanted),
+    }
+}
+
+/// Returns whether a call of the processor was refused for the same reason as `wanted`, whatever
+/// frame or block either names.
+fn is_refused(wanted: Refusal, cpu: Cpu, records: &[Record]) -> bool
+    ensures { IsTrue result ↔ HasReply (AnyOf wanted) (replies_to cpu records.now) }
+{
+    let kind = kind_of(wanted);
+    for record in records {
+        if record.cpu != cpu {
+            continue;
+        }
+        if is_of_kind(&kind, &record.reply) {
             return true;
         }
     }

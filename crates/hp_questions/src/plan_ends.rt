@@ -1,6 +1,7 @@
 //! How the plans of scripts ended.
-ghost use Rattle.std.specs.Prelude.{◌≡◌, [], IfOk, slice_index_or};
-ghost use Rattle.hp_questions.specs.PlanEnds.{all_plan_ends, end_answered, end_finished, plan_ends};
+ghost use Rattle.std.specs.Prelude.{◌≡◌, ◌++◌, ◌∷◌, [], IfOk, List, OnOk, length, slice_index_or};
+ghost use Rattle.hp_units.specs.declared.replies.Reply.{Reply as OneReply};
+ghost use Rattle.hp_questions.specs.PlanEnds.{AreRead, all_plan_ends, end_answered, end_finished, plan_ends};
 
 use hp_schedules::{CallScript, FinishedLine, LineAnswer, Positions, Replies};
 use hp_units::{Cpu, OpEnd, Record, Reply, Serial};
@@ -75,28 +76,60 @@ fn plan_ends(
 ) -> Result<PlanEnds, AllocError>
     ensures { IfOk result (λ ends. ends ≡ plan_ends cpus script.now replies.now) }
 {
-    let scripts = slice::from_ref(script);
-    let mut positions = Positions::start(alloc, cpus, scripts)?;
+    let mut positions = Positions::start(alloc, cpus, slice::from_ref(script))?;
     let mut calls = Vec::new(alloc);
     let mut ends = Vec::new(alloc);
     for reply in replies {
-        calls.reserve(1)?;
-        let Some(call) = positions.request(alloc, cpus, scripts, calls.as_slice(), 0)? else {
-            continue;
-        };
-        let latest = Record {
-            serial: Serial(0),
-            cpu: Cpu(0),
-            event: call.event.copy(alloc)?,
-            reply: *reply,
-        };
-        positions.go_on(cpus, scripts, 0, &call, &latest);
-        if let Some(end) = end_of(&positions.answered(scripts, &latest)) {
-            ends.push(end)?;
-        }
-        calls.push_reserved(latest);
+        read_reply(
+            alloc,
+            cpus,
+            script,
+            *reply,
+            &mut positions,
+            &mut calls,
+            &mut ends,
+        )?;
     }
     Ok(PlanEnds { ends })
+}
+
+/// Gives the script's next call this reply, and appends the end of the plan that the call finished,
+/// if it finished one. Ignores the reply if the script is finished.
+///
+/// `positions` has the script's position after `calls`, the calls so far.
+fn read_reply(
+    alloc: Global,
+    cpus: u32,
+    script: &CallScript,
+    reply: Reply,
+    positions: &mut Positions,
+    calls: &mut Vec<Record>,
+    ends: &mut Vec<OpEnd>,
+) -> Result<(), AllocError>
+    requires { length positions.old.cursors.items ≡ 1 }
+    ensures { OnOk result ((replies : List OneReply)
+        → AreRead cpus script.now replies positions.old.cursors.items calls.old.items ends.old.items
+        → AreRead cpus script.now (replies ++ reply ∷ [])
+        positions.new.cursors.items calls.new.items ends.new.items) }
+{
+    let scripts = slice::from_ref(script);
+    calls.reserve(1)?;
+    let Some(call) = positions.request(alloc, cpus, scripts, calls.as_slice(), 0)? else {
+        return Ok(());
+    };
+    let latest = Record {
+        serial: Serial(0),
+        cpu: Cpu(0),
+        event: call.event.copy(alloc)?,
+        reply,
+    };
+    positions.go_on(cpus, scripts, 0, &call, &latest);
+    let ended = end_of(&positions.answered(scripts, &latest));
+    calls.push_reserved(latest);
+    if let Some(end) = ended {
+        ends.push(end)?;
+    }
+    Ok(())
 }
 
 /// Returns the end of the plan that a call finished, if it finished one.

@@ -1,4 +1,3 @@
-pub mod Explorations
 pub mod Findings
 pub mod GroupsFound
 pub mod GroupsGrown

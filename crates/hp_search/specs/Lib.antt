@@ -1,5 +1,4 @@
 pub mod Ends
-pub mod Explorations
 pub mod FaultOrigins
 pub mod Faults
 pub mod Findings

@@ -16,7 +16,7 @@ use hp_units::Cpu;
 use std::alloc::Global;
 
 impl Prepared {
-    /// Returns the text of an exploration of the scripts, as `explore_text` returns it.
+    /// Returns the text of an exploration of the scripts, as `explore_text` of hp_parts returns it.
     ///
     /// Replays an end's first interleaving if its calls are in the text. The error is `HistoryFull`
     /// if the history has no room for all calls of such an interleaving, or `OutOfMemory`.
@@ -37,8 +37,8 @@ impl Prepared {
         self.ends_told(alloc, &explored.ends, more, form)
     }
 
-    /// Returns the text of `ends` in `form`, as `explore_text` returns it. `more` is `None` if all
-    /// interleavings were counted, and otherwise what is known of their number.
+    /// Returns the text of `ends` in `form`, as `explore_text` of hp_parts returns it. `more` is
+    /// `None` if all interleavings were counted, and otherwise what is known of their number.
     ///
     /// Replays an end's first interleaving if its calls are in the text; a summary has none. The
     /// error is `HistoryFull` if the history has no room for all calls of such an interleaving, or

@@ -42,7 +42,7 @@ pub fn groups_of(
 
 /// Returns the exploration with its ends grouped by a part of their outcome, or unchanged if `by`
 /// is `None`.
-pub(crate) fn grouped(
+pub fn grouped(
     alloc: Global,
     explored: Exploration,
     by: Option<GroupBy>,

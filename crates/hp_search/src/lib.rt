@@ -1,22 +1,17 @@
-//! What a scenario does in every interleaving of its processors' calls, as text; and the faults of
-//! the program `hotplug_lab`, each with its text.
+//! What a search finds in a scenario's interleavings, as text; and the faults of the program
+//! `hotplug_lab`, each with its text.
 //!
-//! hp_scripts runs a scenario's setup and makes the scripts, hp_questions defines the lines that an
-//! end must or must not have, and hp_explore searches. This crate joins the three (`prepared`), and
-//! returns what each search found (`exploring`, `threads`, `finding`). It writes ends and schedules
-//! as words, as JSON and as a scenario (`words`, `objects`, `replays`). It opens no file and no
-//! stream.
+//! The crate prepares a scenario for a search (`prepared`): hp_scripts runs its setup and makes the
+//! scripts. It finds an interleaving that ends as wanted (`finding`), and groups ends by a part of
+//! their outcome (`groups`). It writes ends and schedules as words, as JSON and as a scenario
+//! (`words`, `objects`, `summaries`, `replays`). hp_parts explores a prepared scenario. The
+//! crates that return one of the faults state when it comes. The crate opens no file and no stream.
 //!
-//! The specs define what a contract states about the bytes of a scenario (specs/Holding), and when
-//! each fault of a search comes. This crate also defines the faults of the program and of adding up
-//! the parts of a search. The crates that return such a fault state when it comes.
-//!
-//! Read specs/Prepared and specs/Holding first, then specs/Explorations (what `explore_text`
-//! promises), specs/Findings, specs/Words and specs/FaultOrigins.
+//! Read specs/Prepared and specs/Holding first (what a contract states about the bytes of a
+//! scenario), then specs/Findings, specs/Ends, specs/Words and specs/FaultOrigins.
 #![tactic(auto)]
 
 mod ends;
-mod exploring;
 mod finding;
 mod forms;
 mod found;
@@ -31,12 +26,11 @@ mod replays;
 mod summaries;
 mod words;
 
-pub use exploring::explore_text;
 pub use finding::{find_text, schedule_told};
 pub use forms::{EndsForm, ScheduleForm};
 pub use found::{FindResult, FindText, SearchText};
 pub use groupings::Grouping;
-pub use groups::{GroupBy, groups_of};
+pub use groups::{GroupBy, grouped, groups_of};
 pub use lab_fault::LabFault;
 pub use objects::{write_keys, write_more};
 pub use part_fault::PartFault;

@@ -4,7 +4,7 @@ use Rattle.std.proofs.lemmas.Bool.{cases_Bool, cases_eq, cases_lt, cond-true, co
 use Rattle.std.specs.List.{flat_map, range_with_len}
 use Rattle.std.specs.Prelude.{nat_lt}
 use Rattle.hp_states.specs.Numbers.{low_bytes, wide_code, number_code, option_code}
-use Rattle.hp_states.specs.Parts.{counted_code, kernel_code, odd_page_code, page_code, start_code, words_code}
+use Rattle.hp_states.specs.Parts.{counted_code, gapped_code, kernel_code, lists_code, odd_page_code, page_code, words_code}
 
 -- of two codes with anything after them: where they are equal, they are of the same, and so is what
 -- follows
@@ -183,32 +183,32 @@ pub page-apart : (count : ℕ) (f g : Option ℕ) (u v : Option (List ℕ)) (xs 
 page-apart count f g u v xs ys e =
     pages_by_forms count f g u v xs ys (page_form count f u) (page_form count g v) e
 
--- ---- kernel blocks
+-- ---- numbers after a gap
 
-data StartForm (gap order : ℕ) : Type 0 where
-  low : order < 14 → start_code gap order ≡ number_code (16 * gap + order + 1) → StartForm gap order
-  high : start_code gap order ≡ number_code (16 * gap + 15) ++ number_code order → StartForm gap order
+data GapForm (gap order : ℕ) : Type 0 where
+  low : order < 14 → gapped_code gap order ≡ number_code (16 * gap + order + 1) → GapForm gap order
+  high : gapped_code gap order ≡ number_code (16 * gap + 15) ++ number_code order → GapForm gap order
 
-start_form : (gap order : ℕ) → StartForm gap order
-start_form gap order = elim (cases_Bool (nat_lt order 14)) [
+gap_form : (gap order : ℕ) → GapForm gap order
+gap_form gap order = elim (cases_Bool (nat_lt order 14)) [
   | inl less ↦ low (ltb-true order 14 less) (cond-true (nat_lt order 14) _ _ less)
   | inr more ↦ high (cond-false (nat_lt order 14) _ _ more)
 ]
 
-starts_by_forms : (gap a b : ℕ) (xs ys : List ℕ) → StartForm gap a → StartForm gap b
-    → start_code gap a ++ xs ≡ start_code gap b ++ ys → (a ≡ b) × (xs ≡ ys)
-starts_by_forms gap a b xs ys (low less is) (low below also) e =
+gapped_by_forms : (gap a b : ℕ) (xs ys : List ℕ) → GapForm gap a → GapForm gap b
+    → gapped_code gap a ++ xs ≡ gapped_code gap b ++ ys → (a ≡ b) × (xs ≡ ys)
+gapped_by_forms gap a b xs ys (low less is) (low below also) e =
     let h = number-apart (16 * gap + a + 1) (16 * gap + b + 1) xs ys (rw (is, also) at e) in
     (omega (arith, h.0), h.1)
-starts_by_forms gap a b xs ys (low less is) (high also) e =
+gapped_by_forms gap a b xs ys (low less is) (high also) e =
     let h =
     number-apart (16 * gap + a + 1) (16 * gap + 15) xs _ (simp append_assoc at (rw (is, also) at e)) in
     absurd (omega (arith, less, h.0))
-starts_by_forms gap a b xs ys (high is) (low below also) e =
+gapped_by_forms gap a b xs ys (high is) (low below also) e =
     let h =
     number-apart (16 * gap + 15) (16 * gap + b + 1) _ ys (simp append_assoc at (rw (is, also) at e)) in
     absurd (omega (arith, below, h.0))
-starts_by_forms gap a b xs ys (high is) (high also) e =
+gapped_by_forms gap a b xs ys (high is) (high also) e =
     let h =
     number-apart (16 * gap + 15) (16 * gap + 15) _ _ (simp append_assoc at (rw (is, also) at e)) in
     number-apart a b xs ys h.1
@@ -221,22 +221,24 @@ record Begins (low high : ℕ) (code : List ℕ) : Type 0 where
   at_most : number ≤ high
   is : code ≡ number_code number ++ rest
 
-start_begins : (gap order : ℕ) (xs : List ℕ) → StartForm gap order
-    → Begins (16 * gap + 1) (16 * gap + 15) (start_code gap order ++ xs)
-start_begins gap order xs (low less is) = record {
+gapped_begins : (gap order : ℕ) (xs : List ℕ) → GapForm gap order
+    → Begins (16 * gap + 1) (16 * gap + 15) (gapped_code gap order ++ xs)
+gapped_begins gap order xs (low less is) = record {
   number = 16 * gap + order + 1;
   rest = xs;
   at_least = omega arith;
   at_most = omega (arith, less);
   is = rw is refl;
 }
-start_begins gap order xs (high is) = record {
+gapped_begins gap order xs (high is) = record {
   number = 16 * gap + 15;
   rest = number_code order ++ xs;
   at_least = omega arith;
   at_most = omega arith;
   is = rw is (append_assoc (number_code (16 * gap + 15)) (number_code order) xs);
 }
+
+-- ---- kernel blocks
 
 -- a code after a gap begins with a number of this gap or of a greater one
 after_gap : (gap : ℕ) (orders : List (Option ℕ)) (xs : List ℕ)
@@ -246,21 +248,21 @@ after_gap gap (None ∷ orders) xs =
     let h = after_gap (gap + 1) orders xs in
     (h.0, h.1, omega (arith, h.2), h.3)
 after_gap gap (Some order ∷ orders) xs =
-    let h = start_begins gap order (kernel_code 0 orders ++ xs) (start_form gap order) in (
+    let h = gapped_begins gap order (kernel_code 0 orders ++ xs) (gap_form gap order) in (
       h.number,
       h.rest,
       omega (arith, h.at_least),
-      append_assoc (start_code gap order) (kernel_code 0 orders) xs ∙ h.is,
+      append_assoc (gapped_code gap order) (kernel_code 0 orders) xs ∙ h.is,
     )
 
 -- no code with a start right here is one with none
 starts_here : (gap order : ℕ) (us vs : List (Option ℕ)) (xs ys : List ℕ)
     → kernel_code gap (Some order ∷ us) ++ xs ≡ kernel_code (gap + 1) vs ++ ys → ⊥
 starts_here gap order us vs xs ys e =
-    let h = start_begins gap order (kernel_code 0 us ++ xs) (start_form gap order) in
+    let h = gapped_begins gap order (kernel_code 0 us ++ xs) (gap_form gap order) in
     let k = after_gap (gap + 1) vs ys in
     let same = number-apart h.number k.0 h.rest k.1
-    (sym h.is ∙ (sym (append_assoc (start_code gap order) (kernel_code 0 us) xs) ∙ (e ∙ k.3))) in
+    (sym h.is ∙ (sym (append_assoc (gapped_code gap order) (kernel_code 0 us) xs) ∙ (e ∙ k.3))) in
     absurd (omega (arith, same.0, h.at_most, k.2))
 
 pub kernel-apart : (gap : ℕ) (us vs : List (Option ℕ)) (xs ys : List ℕ) → length us ≡ length vs
@@ -272,8 +274,56 @@ kernel-apart gap (None ∷ us) (None ∷ vs) xs ys size e =
 kernel-apart gap (None ∷ us) (Some b ∷ vs) xs ys size e = absurd (starts_here gap b vs us ys xs (sym e))
 kernel-apart gap (Some a ∷ us) (None ∷ vs) xs ys size e = absurd (starts_here gap a us vs xs ys e)
 kernel-apart gap (Some a ∷ us) (Some b ∷ vs) xs ys size e =
-    let first = starts_by_forms gap a b _ _ (start_form gap a) (start_form gap b)
+    let first = gapped_by_forms gap a b _ _ (gap_form gap a) (gap_form gap b)
     (simp append_assoc at e) in
     let rest = kernel-apart 0 us vs xs ys (omega arith) first.1 in
     (cc, rest.1)
 kernel-apart gap _ _ xs ys size e = absurd (omega arith)
+
+-- ---- lists, of which the empty ones are left out
+
+-- the code of a list that is not empty, and of those behind it
+list_parts : (gap n : ℕ) (ns : List ℕ) (lists : List (List ℕ)) (xs : List ℕ)
+    → lists_code gap ((n ∷ ns) ∷ lists) ++ xs
+    ≡ gapped_code gap (length (n ∷ ns)) ++ (flat_map number_code (n ∷ ns) ++ (lists_code 0 lists ++ xs))
+list_parts gap n ns lists xs = simp append_assoc
+
+-- a code after a gap begins with a number of this gap or of a greater one
+after_empty : (gap : ℕ) (lists : List (List ℕ)) (xs : List ℕ)
+    → (n : ℕ) × (rest : List ℕ) × (16 * gap ≤ n) × (lists_code gap lists ++ xs ≡ number_code n ++ rest)
+after_empty gap [] xs = (16 * gap, xs, omega arith, refl)
+after_empty gap ([] ∷ lists) xs =
+    let h = after_empty (gap + 1) lists xs in
+    (h.0, h.1, omega (arith, h.2), h.3)
+after_empty gap ((n ∷ ns) ∷ lists) xs =
+    let h = gapped_begins gap (length (n ∷ ns)) (flat_map number_code (n ∷ ns) ++ (lists_code 0 lists ++ xs))
+    (gap_form gap (length (n ∷ ns))) in
+    (h.number, h.rest, omega (arith, h.at_least), list_parts gap n ns lists xs ∙ h.is)
+
+-- no code with a list right here is one with an empty list here
+list_here : (gap n : ℕ) (ns : List ℕ) (us vs : List (List ℕ)) (xs ys : List ℕ)
+    → lists_code gap ((n ∷ ns) ∷ us) ++ xs ≡ lists_code (gap + 1) vs ++ ys → ⊥
+list_here gap n ns us vs xs ys e =
+    let h = gapped_begins gap (length (n ∷ ns)) (flat_map number_code (n ∷ ns) ++ (lists_code 0 us ++ xs))
+    (gap_form gap (length (n ∷ ns))) in
+    let k = after_empty (gap + 1) vs ys in
+    let same = number-apart h.number k.0 h.rest k.1
+    (sym h.is ∙ (sym (list_parts gap n ns us xs) ∙ (e ∙ k.3))) in
+    absurd (omega (arith, same.0, h.at_most, k.2))
+
+pub lists-apart : (gap : ℕ) (us vs : List (List ℕ)) (xs ys : List ℕ) → length us ≡ length vs
+    → lists_code gap us ++ xs ≡ lists_code gap vs ++ ys → (us ≡ vs) × (xs ≡ ys)
+lists-apart gap [] [] xs ys size e = (refl, (number-apart (16 * gap) (16 * gap) xs ys e).1)
+lists-apart gap ([] ∷ us) ([] ∷ vs) xs ys size e =
+    let h = lists-apart (gap + 1) us vs xs ys (omega arith) e in
+    (ap (λ (lists : List (List ℕ)). [] ∷ lists) h.0, h.1)
+lists-apart gap ([] ∷ us) ((n ∷ ns) ∷ vs) xs ys size e = absurd (list_here gap n ns vs us ys xs (sym e))
+lists-apart gap ((m ∷ ms) ∷ us) ([] ∷ vs) xs ys size e = absurd (list_here gap m ms us vs xs ys e)
+lists-apart gap ((m ∷ ms) ∷ us) ((n ∷ ns) ∷ vs) xs ys size e =
+    let first = gapped_by_forms gap (length (m ∷ ms)) (length (n ∷ ns)) _ _ (gap_form gap (length (m ∷ ms)))
+    (gap_form gap (length (n ∷ ns)))
+    (sym (list_parts gap m ms us xs) ∙ (e ∙ list_parts gap n ns vs ys)) in
+    let here = many-apart number_code number-apart (m ∷ ms) (n ∷ ns) _ _ first.0 first.1 in
+    let rest = lists-apart 0 us vs xs ys (omega arith) here.1 in
+    (cc, rest.1)
+lists-apart gap _ _ xs ys size e = absurd (omega arith)

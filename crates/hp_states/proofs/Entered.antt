@@ -12,8 +12,8 @@ use Rattle.hp_schedules.proofs.Trails.{keeps_none}
 use Rattle.hp_states.specs.Frames.{GoOn, IsAdded, IsEntered, IsEnteredWithin, IsFrame, IsFresh}
 use Rattle.hp_states.specs.Seen.{Grow}
 use Rattle.hp_states.specs.Walks.{IsPartWalkedBefore, IsPartWalkedThrough}
-use Rattle.hp_states.specs.declared.frames.Entry.{Entry}
-use Rattle.hp_states.specs.declared.frames.Entry.TheVariants.{Counted, Open}
+use Rattle.hp_states.specs.declared.frames.Treatment.{Treatment}
+use Rattle.hp_states.specs.declared.frames.Treatment.TheVariants.{Counted, Open}
 use Rattle.hp_states.specs.declared.frames.Level.{Level}
 use Rattle.hp_states.proofs.Counts.{counts_many, since_now}
 use Rattle.hp_states.proofs.Grown.{grow_none, grow_twice}
@@ -90,20 +90,20 @@ left_out g part news n t many long apart walked = (
 
 -- or all that go on from there do
 pub let_in : (g : Setting) (news : List Record) (part : PartValue) (n : ℕ) (old new : TallyValue)
-    (entry : Entry)
+    (treatment : Treatment)
     → n ≡ length g.scripts → part.calls ≤ length news → IsOfPart n part (schedule_of news)
     → IsPartWalkedBefore g part (schedule_of news) old.ends
-    → IsEnteredWithin g news old new entry → IsEntered g news part old new entry
-let_in g news part n old new entry many long of walked within = grind (arith, all_of, length-map)
+    → IsEnteredWithin g news old new treatment → IsEntered g news part old new treatment
+let_in g news part n old new treatment many long of walked within = grind (arith, all_of, length-map)
 
 -- or what was counted from another place is counted once more, as far as there is room
 pub entered_added : (g : Setting) (news : List Record) (old new : TallyValue) (shares : List Share)
-    (entry : Entry)
+    (treatment : Treatment)
     → (AddsShares old.ends shares new.ends → (part : PartValue)
     → AllOfPart (length g.scripts) part (schedule_of news)
     → IsPartWalkedBefore g part (schedule_of news) old.ends
     → IsPartWalkedThrough g part (schedule_of news) new.ends × Grow old.ends new.ends)
-    → IsAdded old shares new entry → IsEnteredWithin g news old new entry
+    → IsAdded old shares new treatment → IsEnteredWithin g news old new treatment
 entered_added g news old new shares Counted walked added part all before =
     let through = walked added.0 part all before in
     (through.0, record { grown = through.1; told = added.1 })

@@ -4,23 +4,22 @@ use Rattle.std.proofs.lemmas.List.{flat_map_more, take_all, take_more}
 use Rattle.std.proofs.lemmas.List.FromFn.{get_or-range_with_len, length-range_with_len}
 use Rattle.std.specs.List.{flat_map, range_with_len}
 use Rattle.hp_states.specs.Numbers.{number_code}
-use Rattle.hp_states.specs.Parts.{kernel_code, start_code}
+use Rattle.hp_states.specs.Parts.{gapped_code, IsListPut, kernel_code, lists_code}
 
 -- the items from a place on
-at_place : (orders : List (Option ℕ)) (i : ℕ) → i < length orders
-    → drop i orders ≡ get_or orders i None ∷ drop (i + 1) orders
-at_place [] i low = absurd (omega (arith, low))
-at_place (o ∷ orders) zero low = refl
-at_place (o ∷ orders) (suc i) low =
+at_place : {X : Type 0} (xs : List X) (i : ℕ) (d : X) → i < length xs
+    → drop i xs ≡ get_or xs i d ∷ drop (i + 1) xs
+at_place [] i d low = absurd (omega (arith, low))
+at_place (x ∷ xs) zero d low = refl
+at_place {X} (x ∷ xs) (suc i) d low =
     let on : suc i + 1 ≡ suc (i + 1) = omega arith in
-    at_place orders i (omega arith)
-    ∙ ap (λ (n : ℕ). get_or orders i None ∷ drop n (o ∷ orders)) (sym on)
+    at_place xs i d (omega arith) ∙ ap (λ (n : ℕ). get_or xs i d ∷ drop n (x ∷ xs)) (sym on)
 
-past_all : (orders : List (Option ℕ)) (i : ℕ) → length orders ≤ i → drop i orders ≡ []
+past_all : {X : Type 0} (xs : List X) (i : ℕ) → length xs ≤ i → drop i xs ≡ []
 past_all [] zero past = refl
 past_all [] (suc i) past = refl
-past_all (o ∷ orders) zero past = absurd (omega (arith, past))
-past_all (o ∷ orders) (suc i) past = past_all orders i (omega arith)
+past_all (x ∷ xs) zero past = absurd (omega (arith, past))
+past_all (x ∷ xs) (suc i) past = past_all xs i (omega arith)
 
 -- one more
 pub one_more : {X : Type 0} (f : X → List ℕ) (start before after : List ℕ) (xs : List X) (i : ℕ) (d : X)
@@ -62,18 +61,19 @@ pub gap_more : (orders : List (Option ℕ)) (i gap : ℕ) (code all : List ℕ) 
     → code ++ kernel_code (gap + 1) (drop (i + 1) orders) ≡ all
 gap_more orders i gap code all low none so_far =
     ap (λ (rest : List (Option ℕ)). code ++ kernel_code gap rest)
-    (sym (ap (λ (order : Option ℕ). order ∷ drop (i + 1) orders) none) ∙ sym (at_place orders i low)) ∙ so_far
+    (sym (ap (λ (order : Option ℕ). order ∷ drop (i + 1) orders) none)
+    ∙ sym (at_place orders i None low)) ∙ so_far
 
 -- a frame at which one starts
 pub start_more : (orders : List (Option ℕ)) (i gap order : ℕ) (before after all : List ℕ)
-    → i < length orders → get_or orders i None ≡ Some order → after ≡ before ++ start_code gap order
+    → i < length orders → get_or orders i None ≡ Some order → after ≡ before ++ gapped_code gap order
     → before ++ kernel_code gap (drop i orders) ≡ all
     → after ++ kernel_code 0 (drop (i + 1) orders) ≡ all
 start_more orders i gap order before after all low some e so_far =
     ap (λ (code : List ℕ). code ++ kernel_code 0 (drop (i + 1) orders)) e
-    ∙ (append_assoc before (start_code gap order) (kernel_code 0 (drop (i + 1) orders))
+    ∙ (append_assoc before (gapped_code gap order) (kernel_code 0 (drop (i + 1) orders))
     ∙ (ap (λ (rest : List (Option ℕ)). before ++ kernel_code gap rest)
-    (sym (ap (λ (o : Option ℕ). o ∷ drop (i + 1) orders) some) ∙ sym (at_place orders i low)) ∙ so_far))
+    (sym (ap (λ (o : Option ℕ). o ∷ drop (i + 1) orders) some) ∙ sym (at_place orders i None low)) ∙ so_far))
 
 -- all frames
 pub frames_done : (orders : List (Option ℕ)) (i gap : ℕ) (before after all : List ℕ) → length orders ≤ i
@@ -81,4 +81,37 @@ pub frames_done : (orders : List (Option ℕ)) (i gap : ℕ) (before after all :
     → after ≡ all
 frames_done orders i gap before after all past e so_far =
     e ∙ (ap (λ (rest : List (Option ℕ)). before ++ kernel_code gap rest) (sym (past_all orders i past))
+    ∙ so_far)
+
+-- ---- lists, of which the empty ones are left out
+
+-- an empty list
+pub list_left : (numbers : List ℕ) (gap : ℕ) (code : List ℕ) → length numbers ≡ 0
+    → IsListPut code code gap (gap + 1) numbers
+list_left [] gap code none later = refl
+list_left (n ∷ numbers) gap code none later = absurd (omega (arith, none))
+
+-- one that is not
+pub list_put : (numbers : List ℕ) (gap : ℕ) (old start new : List ℕ) → 1 ≤ length numbers
+    → start ≡ old ++ gapped_code gap (length numbers) → new ≡ start ++ flat_map number_code numbers
+    → IsListPut old new gap 0 numbers
+list_put [] gap old start new some e f later = absurd (omega (arith, some))
+list_put (n ∷ numbers) gap old start new some e f later = rw (f, e) (simp append_assoc)
+
+-- one more
+pub list_more : (lists : List (List ℕ)) (i gap next : ℕ) (before after all : List ℕ) → i < length lists
+    → IsListPut before after gap next (get_or lists i [])
+    → before ++ lists_code gap (drop i lists) ≡ all
+    → after ++ lists_code next (drop (i + 1) lists) ≡ all
+list_more lists i gap next before after all low put so_far =
+    put (drop (i + 1) lists)
+    ∙ (ap (λ (rest : List (List ℕ)). before ++ lists_code gap rest) (sym (at_place lists i [] low))
+    ∙ so_far)
+
+-- all of them
+pub lists_done : (lists : List (List ℕ)) (i gap : ℕ) (before after all : List ℕ) → length lists ≤ i
+    → after ≡ before ++ number_code (16 * gap) → before ++ lists_code gap (drop i lists) ≡ all
+    → after ≡ all
+lists_done lists i gap before after all past e so_far =
+    e ∙ (ap (λ (rest : List (List ℕ)). before ++ lists_code gap rest) (sym (past_all lists i past))
     ∙ so_far)

@@ -21,9 +21,9 @@ use Rattle.hp_units.specs.declared.rows.Wish.TheVariants.{Off as OffWish, Normal
 use Rattle.hp_units.specs.declared.rows.Zone.{Zone}
 use Rattle.hp_units.specs.declared.rows.Zone.TheVariants.{Normal as NormalZone, Movable as MovableZone}
 use Rattle.hp_units.specs.Rows.{state_number, zone_number}
-use Rattle.hp_states.specs.Parts.{auto_number, claim_code, claim_number, counted_code, kernel_code, kind_at, kind_number, kinds_code, owner_code, page_code_at, row_code, wish_number}
+use Rattle.hp_states.specs.Parts.{auto_number, claim_code, claim_number, kernel_code, kind_at, kind_number, kinds_code, lists_code, owner_code, page_code_at, row_code, wish_number}
 use Rattle.hp_states.specs.Codes.{state_code}
-use Rattle.hp_states.proofs.Apart.{TellsApart, counted-apart, heads, kernel-apart, many-apart, number-apart, page-apart, range-apart}
+use Rattle.hp_states.proofs.Apart.{TellsApart, heads, kernel-apart, lists-apart, many-apart, number-apart, page-apart, range-apart}
 
 -- ---- values with one number are the same
 
@@ -254,9 +254,9 @@ row-apart a b xs ys e =
 -- the parts one after another, each in front of all that follow
 right : (l : LayoutParts) (m : Memory)
     → state_code l m
-    ≡ flat_map counted_code m.free.areas.lists
+    ≡ lists_code 0 m.free.areas.lists
     ++ (flat_map (kinds_code m.free.areas) (range_with_len 0 ((pageblock_count l + 3) / 4))
-    ++ (flat_map counted_code m.free.cached ++ (flat_map (owner_code l m.pages) (range_with_len 0 l.owners)
+    ++ (lists_code 0 m.free.cached ++ (flat_map (owner_code l m.pages) (range_with_len 0 l.owners)
     ++ (kernel_code 0 m.kernel ++ (flat_map row_code m.blocks.rows ++ auto_number m.blocks.auto ∷ [])))))
 unfolding state_code
 right l m = simp append_assoc
@@ -265,10 +265,10 @@ right l m = simp append_assoc
 pub states-apart : (l : LayoutParts) (a b : Memory) → IsShaped l a → IsShaped l b
     → state_code l a ≡ state_code l b → a ≡ b
 states-apart l a b p q e =
-    let lists = many-apart counted_code counted-apart a.free.areas.lists b.free.areas.lists _ _
+    let lists = lists-apart 0 a.free.areas.lists b.free.areas.lists _ _
     (p.lists ∙ sym q.lists) (sym (right l a) ∙ (e ∙ right l b)) in
     let kinds = kinds-apart a.free.areas b.free.areas (pageblock_count l) _ _ p.kinds q.kinds lists.1 in
-    let cached = many-apart counted_code counted-apart _ _ _ _ (p.cached ∙ sym q.cached) kinds.1 in
+    let cached = lists-apart 0 _ _ _ _ (p.cached ∙ sym q.cached) kinds.1 in
     let pages = pages-apart l a b _ _ p q cached.1 in
     let kernel = kernel-apart 0 a.kernel b.kernel _ _ (p.kernel ∙ sym q.kernel) pages.1 in
     let rows = many-apart row_code row-apart _ _ _ _ (p.rows ∙ sym q.rows) kernel.1 in
@@ -277,9 +277,9 @@ states-apart l a b p q e =
 
 -- the parts, each written behind the ones before it
 pub written : (l : LayoutParts) (m : Memory) (start areas kinds cached pages kernel rows all : List ℕ)
-    (auto : ℕ) → areas ≡ start ++ flat_map counted_code m.free.areas.lists
+    (auto : ℕ) → areas ≡ start ++ lists_code 0 m.free.areas.lists
     → kinds ≡ areas ++ flat_map (kinds_code m.free.areas) (range_with_len 0 ((pageblock_count l + 3) / 4))
-    → cached ≡ kinds ++ flat_map counted_code m.free.cached
+    → cached ≡ kinds ++ lists_code 0 m.free.cached
     → pages ≡ cached ++ flat_map (owner_code l m.pages) (range_with_len 0 l.owners)
     → kernel ≡ pages ++ kernel_code 0 m.kernel → rows ≡ kernel ++ flat_map row_code m.blocks.rows
     → all ≡ rows ++ auto ∷ [] → auto ≡ auto_number m.blocks.auto → all ≡ start ++ state_code l m

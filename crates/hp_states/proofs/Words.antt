@@ -1,5 +1,5 @@
 -- The words of a page of a memory, and its code.
-use Rattle.std.proofs.Common.{ℕ, ◌≡◌, ◌+◌, ◌==◌, List, ◌++◌, Option, Some, None, length, sym, ◌∙◌, ap, refl, eq-eqb}
+use Rattle.std.proofs.Common.{ℕ, ◌≡◌, ◌+◌, ◌==◌, List, ◌++◌, Option, Some, None, length, sym, ◌∙◌, ap, refl, append_assoc, eq-eqb}
 use Rattle.std.proofs.lemmas.Bool.{cond-true}
 use Rattle.std.proofs.lemmas.Option.{same_Some}
 use Rattle.std.specs.List.{flat_map}
@@ -62,3 +62,12 @@ mapped_code l (Some g) (Some us) f ws is e s =
     rw (← same_Some g f e, ← same_Some us ws s)
     (sym (cond-true (length us == l.words) (number_code (g + 2) ++ flat_map number_code us)
     (odd_page_code (Some g) (Some us)) (eq-eqb (length us) l.words is)))
+
+-- behind other codes
+pub mapped_behind : (l : LayoutParts) (frame : Option ℕ) (words : Option (List ℕ)) (f n : ℕ)
+    (ws old between : List ℕ) → IsPage l frame words → frame ≡ Some f → words ≡ Some ws → n ≡ f
+    → between ≡ old ++ number_code (n + 2)
+    → between ++ flat_map number_code ws ≡ old ++ page_code l.words frame words
+mapped_behind l frame words f n ws old between is e s same so_far =
+    rw (← mapped_code l frame words f ws is e s, so_far, same)
+    (append_assoc old (number_code (f + 2)) (flat_map number_code ws))

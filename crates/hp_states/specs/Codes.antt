@@ -5,14 +5,14 @@ use Rattle.hp_units.specs.Arithmetic.{pageblock_count}
 use Rattle.hp_units.specs.LayoutParts.{LayoutParts}
 use Rattle.hp_units.specs.Memory.{Memory}
 use Rattle.hp_units.specs.Placement.{IsShaped}
-use Rattle.hp_states.specs.Parts.{auto_number, counted_code, kernel_code, kinds_code, owner_code, row_code}
+use Rattle.hp_states.specs.Parts.{auto_number, counted_code, kernel_code, kinds_code, lists_code, owner_code, row_code}
 
 -- the code of a state of a layout: its parts one after another
 unfoldable pub state_code : LayoutParts → Memory → List ℕ
 state_code l m =
-    flat_map counted_code m.free.areas.lists
+    lists_code 0 m.free.areas.lists
     ++ flat_map (kinds_code m.free.areas) (range_with_len 0 ((pageblock_count l + 3) / 4))
-    ++ flat_map counted_code m.free.cached ++ flat_map (owner_code l m.pages) (range_with_len 0 l.owners)
+    ++ lists_code 0 m.free.cached ++ flat_map (owner_code l m.pages) (range_with_len 0 l.owners)
     ++ kernel_code 0 m.kernel ++ flat_map row_code m.blocks.rows ++ auto_number m.blocks.auto ∷ []
 
 -- the code of a place of a search: some numbers, with their count, and then the state

@@ -12,8 +12,8 @@ use Rattle.hp_schedules.specs.Trails.{KeepsBefore, WereCounted}
 use Rattle.hp_states.specs.Places.{IsPlace}
 use Rattle.hp_states.specs.Seen.{Grow, IsMemo, IsOnWay, MemoValue}
 use Rattle.hp_states.specs.Walks.{BeforeInPart, IsPartWalkedBefore, IsPartWalkedThrough}
-use Rattle.hp_states.specs.declared.frames.Entry.{Entry}
-use Rattle.hp_states.specs.declared.frames.Entry.TheVariants.{Counted, Open}
+use Rattle.hp_states.specs.declared.frames.Treatment.{Treatment}
+use Rattle.hp_states.specs.declared.frames.Treatment.TheVariants.{Counted, Open}
 use Rattle.hp_states.specs.declared.frames.Level.{Level}
 use Rattle.hp_schedules.specs.declared.cursors.Cursor.{Cursor}
 use Rattle.hp_schedules.specs.declared.trail.Share.{Share}
@@ -64,14 +64,14 @@ IsFresh tally frame = frame ≡ record { next = 0; is_over = true; start = lengt
 
 -- either each end's count grew by its shares, and the trail (the list of what was added) still
 -- gives the earlier counts; or the tally is unchanged and the place has a fresh level
-abbrev pub IsAdded : (old : TallyValue) → (shares : List Share) → (new : TallyValue) → Entry → Type 0
+abbrev pub IsAdded : (old : TallyValue) → (shares : List Share) → (new : TallyValue) → Treatment → Type 0
 IsAdded old shares new Counted =
     AddsShares old.ends shares new.ends × KeepsBefore (length old.trail) old new
 IsAdded old shares new (Open frame) = (new ≡ old) × IsFresh old frame
 
 -- the treatment of a place in a part's search: either its schedules are counted, or it has a fresh
 -- level
-abbrev pub IsEntered : Setting → List Record → PartValue → (old new : TallyValue) → Entry → Type 0
+abbrev pub IsEntered : Setting → List Record → PartValue → (old new : TallyValue) → Treatment → Type 0
 IsEntered g news part old new Counted =
     IsPartWalkedThrough g part (schedule_of news) new.ends × GoOn (length old.trail) old new
 IsEntered g news part old new (Open frame) =
@@ -80,10 +80,10 @@ IsEntered g news part old new (Open frame) =
 
 -- for each part: if all schedules from the place belong to it, and everything of the part before the
 -- place is walked, then the place is treated as IsEntered states
-abbrev pub IsEnteredWithin : Setting → List Record → (old new : TallyValue) → Entry → Type 0
-IsEnteredWithin g news old new entry =
+abbrev pub IsEnteredWithin : Setting → List Record → (old new : TallyValue) → Treatment → Type 0
+IsEnteredWithin g news old new treatment =
     (part : PartValue) → AllOfPart (length g.scripts) part (schedule_of news)
-    → IsPartWalkedBefore g part (schedule_of news) old.ends → IsEntered g news part old new entry
+    → IsPartWalkedBefore g part (schedule_of news) old.ends → IsEntered g news part old new treatment
 
 -- ---- a walk that reaches a place or leaves it
 

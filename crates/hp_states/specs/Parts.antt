@@ -1,5 +1,5 @@
 -- The parts of a state as bytes. A count is written only if the layout does not give it.
-use Rattle.std.specs.Prelude.{ℕ, ◌+◌, ◌*◌, ◌/◌, ◌%◌, ◌==◌, Bool, true, false, List, [], ◌∷◌, ◌++◌, Option, None, Some, length, nat_lt, if◌then◌else◌}
+use Rattle.std.specs.Prelude.{ℕ, ◌≡◌, ◌+◌, ◌*◌, ◌/◌, ◌%◌, ◌==◌, Bool, true, false, List, [], ◌∷◌, ◌++◌, Option, None, Some, length, nat_lt, if◌then◌else◌}
 use Rattle.std.specs.List.{flat_map, range_with_len}
 use Rattle.hp_units.specs.LayoutParts.{LayoutParts}
 use Rattle.hp_units.specs.Memory.{FreeAreas, Pages, kind_of}
@@ -18,6 +18,28 @@ use Rattle.hp_states.specs.Numbers.{number_code, option_code}
 -- the bytes of a list whose length the layout does not give: its length, then its numbers
 abbrev pub counted_code : List ℕ → List ℕ
 counted_code numbers = number_code (length numbers) ++ flat_map number_code numbers
+
+-- a number after `gap` items that are left out: both in one number if it is below 14
+abbrev pub gapped_code : (gap number : ℕ) → List ℕ
+gapped_code gap number =
+    if nat_lt number 14 then number_code (16 * gap + number + 1)
+    else number_code (16 * gap + 15) ++ number_code number
+
+-- the bytes of many lists, after `gap` empty ones: each list that is not empty is its length after the
+-- number of empty ones in front of it, and then its numbers. At the end comes the number of empty lists
+-- behind the last one
+abbrev pub lists_code : (gap : ℕ) → List (List ℕ) → List ℕ
+lists_code gap [] = number_code (16 * gap)
+lists_code gap ([] ∷ lists) = lists_code (gap + 1) lists
+lists_code gap ((number ∷ numbers) ∷ lists) =
+    gapped_code gap (length (number ∷ numbers))
+    ++ (flat_map number_code (number ∷ numbers) ++ lists_code 0 lists)
+
+-- the numbers of one more list are written behind `old`: after them `next` lists are left out, as `gap` were
+-- before, whatever lists come later
+abbrev pub IsListPut : (old new : List ℕ) → (gap next : ℕ) → (numbers : List ℕ) → Type 0
+IsListPut old new gap next numbers =
+    (later : List (List ℕ)) → new ++ lists_code next later ≡ old ++ lists_code gap (numbers ∷ later)
 
 -- optional words: their number plus one, and then the words; 0 for none
 abbrev pub words_code : Option (List ℕ) → List ℕ
@@ -46,19 +68,13 @@ page_code_at l ps owner page = page_code l.words (frame_at ps owner page) (words
 abbrev pub owner_code : LayoutParts → Pages → (owner : ℕ) → List ℕ
 owner_code l ps owner = flat_map (page_code_at l ps owner) (range_with_len 0 l.pages)
 
--- the start of a kernel block of this order, after `gap` frames at which none starts: one number if the
--- order is below 14, as it is in every layout
-abbrev pub start_code : (gap order : ℕ) → List ℕ
-start_code gap order =
-    if nat_lt order 14 then number_code (16 * gap + order + 1)
-    else number_code (16 * gap + 15) ++ number_code order
-
--- the kernel blocks that start at the frames of a list, after `gap` frames at which none starts: each
--- start after its gap, and then the gap behind the last one
+-- the kernel blocks that start at the frames of a list, after `gap` frames at which none starts: the order
+-- of each after the number of such frames in front of it, and then the number of those behind the last one.
+-- The order is below 14 in every layout
 abbrev pub kernel_code : (gap : ℕ) → List (Option ℕ) → List ℕ
 kernel_code gap [] = number_code (16 * gap)
 kernel_code gap (None ∷ orders) = kernel_code (gap + 1) orders
-kernel_code gap (Some order ∷ orders) = start_code gap order ++ kernel_code 0 orders
+kernel_code gap (Some order ∷ orders) = gapped_code gap order ++ kernel_code 0 orders
 
 -- the number for the kind of a pageblock
 abbrev pub kind_number : Mobility → (isolated : Bool) → ℕ

@@ -12,7 +12,7 @@ ghost use Rattle.hp_schedules.specs.Trails.{KeepsBefore};
 ghost use Rattle.hp_schedules.specs.declared.tally.Ending.{Ending};
 
 use crate::ends::ended_rows;
-use crate::frames::{Entry, Level};
+use crate::frames::{Level, Treatment};
 use crate::memo::Memo;
 use crate::watch::Watch;
 use hp_memory::Memory;
@@ -40,13 +40,13 @@ pub fn arrive<W: Watch>(
     tally: &mut Tally,
     memo: &mut Memo,
     watch: &mut W,
-) -> Result<Entry, AllocError>
+) -> Result<Treatment, AllocError>
     requires processors { processors ≡ length positions.now.cursors.items }
     requires arrival { (g : Setting) × IsArrival g part records.now memory.now
         positions.now.cursors.items tally.old.ends memo.old }
-    ensures ok { IfOk result (λ entry. (g : Setting) → IsArrival g part records.now memory.now
+    ensures ok { IfOk result (λ treatment. (g : Setting) → IsArrival g part records.now memory.now
         positions.now.cursors.items tally.old.ends memo.old
-        → IsEntered g records.now part tally.old tally.new entry) }
+        → IsEntered g records.now part tally.old tally.new treatment) }
     ensures memo { (g : Setting) (ends : List Ending) → IsMemo g ends memo.old → IsMemo g ends memo.new }
     ensures way { (g : Setting) → memory.now ≡ memory_at g records.now → IsOnWay g records.now memo.old
         → IsOnWay g records.now memo.new }
@@ -55,10 +55,10 @@ pub fn arrive<W: Watch>(
 {
     if records.len() < part.calls() as usize {
         let _has_key = memo.come_to(alloc, memory, positions, processors)?;
-        return Ok(Entry::Open(Level::new(tally)));
+        return Ok(Treatment::Open(Level::new(tally)));
     }
     if part.leaves_out(processors, records) {
-        return Ok(Entry::Counted);
+        return Ok(Treatment::Counted);
     }
     enter(
         alloc, memory, positions, processors, is_stopped, tally, memo, watch,
@@ -77,13 +77,13 @@ fn enter<W: Watch>(
     tally: &mut Tally,
     memo: &mut Memo,
     watch: &mut W,
-) -> Result<Entry, AllocError>
+) -> Result<Treatment, AllocError>
     requires processors { processors ≡ length positions.now.cursors.items }
     requires stood { (g : Setting) × (news : List NewRecord) × IsStood g news memory.now
         positions.now.cursors.items tally.old.ends memo.old }
-    ensures ok { IfOk result (λ entry. (g : Setting) (news : List NewRecord)
+    ensures ok { IfOk result (λ treatment. (g : Setting) (news : List NewRecord)
         → IsStood g news memory.now positions.now.cursors.items tally.old.ends memo.old
-        → IsEnteredWithin g news tally.old tally.new entry) }
+        → IsEnteredWithin g news tally.old tally.new treatment) }
     ensures memo { (g : Setting) (ends : List Ending) → IsMemo g ends memo.old → IsMemo g ends memo.new }
     ensures way { (g : Setting) (news : List NewRecord) → memory.now ≡ memory_at g news
         → IsOnWay g news memo.old → IsOnWay g news memo.new }
@@ -91,16 +91,16 @@ fn enter<W: Watch>(
     ensures watch { W.has_ended watch.old → W.has_ended watch.new }
 {
     if is_stopped {
-        return Ok(Entry::Open(Level::new(tally)));
+        return Ok(Treatment::Open(Level::new(tally)));
     }
     let has_key = memo.come_to(alloc, memory, positions, processors)?;
     if !has_key {
-        return Ok(Entry::Open(Level::new(tally)));
+        return Ok(Treatment::Open(Level::new(tally)));
     }
     if let Some(shares) = memo.shares() {
         return add_shares(tally, shares, watch);
     }
-    Ok(Entry::Open(Level::new(tally)))
+    Ok(Treatment::Open(Level::new(tally)))
 }
 
 /// Adds the shares to the tally. If the tally has no room for all of them, adds nothing, and the
@@ -109,18 +109,18 @@ fn add_shares<W: Watch>(
     tally: &mut Tally,
     shares: &[Share],
     watch: &mut W,
-) -> Result<Entry, AllocError>
+) -> Result<Treatment, AllocError>
     requires { AreAtEnds (length tally.old.ends) shares.now }
     ensures ok { IfOk result (IsAdded tally.old shares.now tally.new) }
     ensures limit { tally.new.limit ≡ tally.old.limit }
     ensures watch { W.has_ended watch.old → W.has_ended watch.new }
 {
     if !fit_in(shares, tally.room()) {
-        return Ok(Entry::Open(Level::new(tally)));
+        return Ok(Treatment::Open(Level::new(tally)));
     }
     tally.add(shares)?;
     watch.counted(tally.total());
-    Ok(Entry::Counted)
+    Ok(Treatment::Counted)
 }
 
 /// Counts the schedule that led to this place, if `is_end` states that a schedule of the

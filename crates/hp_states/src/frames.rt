@@ -16,7 +16,7 @@ pub struct Level {
 
 /// How a place just reached was treated.
 #[derive(Clone, Copy, Drop)]
-pub enum Entry {
+pub enum Treatment {
     /// The place's schedules are counted, or belong to another part.
     Counted,
     /// The place is to be walked.

@@ -40,7 +40,7 @@ pub use arrivals::{arrive, leave, note};
 pub use codes::Codes;
 pub use ends::outcome_at;
 pub use exchanges::Exchanges;
-pub use frames::{Entry, Level};
+pub use frames::{Level, Treatment};
 pub use kept_counts::kept_counts_are_added;
 pub use laws::codes_tell_states_apart;
 pub use memo::Memo;

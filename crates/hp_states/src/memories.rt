@@ -1,14 +1,13 @@
 //! The encoding of a memory's state, part by part.
-ghost use Rattle.std.specs.Prelude.{◌≡◌, ◌+◌, ◌*◌, ◌/◌, ◌^◌, ◌<◌, ◌≤◌, ◌∷◌, ◌++◌, OnOk, Some, length, option_map};
+ghost use Rattle.std.specs.Prelude.{◌≡◌, ◌+◌, ◌*◌, ◌/◌, ◌^◌, ◌<◌, ◌≤◌, ◌∷◌, ◌++◌, IfOk, OnOk, Some};
 ghost use Rattle.std.specs.List.{flat_map, range_with_len};
 ghost use Rattle.hp_units.specs.Arithmetic.{pageblock_count};
 ghost use Rattle.hp_units.specs.Memory.{cached_list, free_list};
-ghost use Rattle.hp_units.specs.Pages.{words_at};
 ghost use Rattle.hp_units.specs.Placement.{IsShaped};
 ghost use Rattle.hp_states.specs.Codes.{state_code};
 ghost use Rattle.hp_laws.specs.Numberings.{number_of};
 ghost use Rattle.hp_laws.specs.Renumbered.{renumbered, renumbered_claim, renumbered_row};
-ghost use Rattle.hp_states.specs.Parts.{auto_number, claim_code, claim_number, counted_code, kernel_code, kind_at, kind_number, kinds_byte, kinds_code, owner_code, page_code_at, row_code, row_number, start_code, wish_number};
+ghost use Rattle.hp_states.specs.Parts.{auto_number, claim_code, claim_number, gapped_code, IsListPut, kernel_code, kind_at, kind_number, kinds_byte, kinds_code, lists_code, owner_code, page_code_at, row_code, wish_number};
 
 use crate::code::Code;
 use hp_laws::place_of;
@@ -40,38 +39,49 @@ pub(crate) fn put_memory(
     Ok(())
 }
 
-/// Appends all free lists.
+/// Appends all free lists, and leaves out the empty ones.
 fn put_areas(code: &mut Code, memory: &Memory) -> Result<(), AllocError>
     requires { IsShaped memory.now.layout memory.now.state }
-    ensures { OnOk result (code.new ≡ code.old ++ flat_map counted_code memory.now.state.free.areas.lists) }
+    ensures { OnOk result (code.new ≡ code.old ++ lists_code 0 memory.now.state.free.areas.lists) }
 {
+    let mut gap = 0u64;
     for number in 0..5 * (memory.layout().order() + 1) {
         let class = Class::numbered(number % 5);
-        put_area(code, memory, class, Order(number / 5))?;
+        gap = put_area(code, memory, class, Order(number / 5), gap)?;
     }
-    Ok(())
+    code.number(16 * gap)
 }
 
 /// Appends the free list of one class and order: its length, then its frames from the front.
-fn put_area(code: &mut Code, memory: &Memory, class: Class, order: Order) -> Result<(), AllocError>
-    requires { order ≤ memory.now.layout.order }
-    ensures { OnOk result
-        (code.new ≡ code.old ++ counted_code (free_list memory.now.state.free.areas class order)) }
+/// Appends nothing if it is empty. Returns how many lists are left out since the last one that is
+/// not empty; `gap` is how many were before.
+fn put_area(
+    code: &mut Code,
+    memory: &Memory,
+    class: Class,
+    order: Order,
+    gap: u64,
+) -> Result<u64, AllocError>
+    requires order { order ≤ memory.now.layout.order }
+    requires gap { gap ≤ 2 ^ 20 }
+    ensures gap { IfOk result (λ next. next ≤ gap + 1) }
+    ensures code { IfOk result (λ next. IsListPut code.old code.new gap next
+        (free_list memory.now.state.free.areas class order)) }
 {
     memory.is_placed();
     let areas = memory.buddy();
     let count = areas.len(class, order);
-    code.number(u64::from(count))?;
     if count == 0 {
-        return Ok(());
+        return Ok(gap + 1);
     }
+    put_gapped(code, gap, count)?;
     let mut ahead = areas.front(class, order);
     for _number in 0..count {
         let frame = ahead.unwrap();
         code.number(u64::from(frame.0))?;
         ahead = areas.next(frame);
     }
-    Ok(())
+    Ok(0)
 }
 
 /// Appends the kinds of all pageblocks, four to a byte.
@@ -134,38 +144,50 @@ fn kind_number(kind: Kind) -> u8
     }
 }
 
-/// Appends the lists of all processors.
+/// Appends the lists of all processors, and leaves out the empty ones.
 fn put_cached(code: &mut Code, memory: &Memory) -> Result<(), AllocError>
     requires { IsShaped memory.now.layout memory.now.state }
-    ensures { OnOk result (code.new ≡ code.old ++ flat_map counted_code memory.now.state.free.cached) }
+    ensures { OnOk result (code.new ≡ code.old ++ lists_code 0 memory.now.state.free.cached) }
 {
+    let mut gap = 0u64;
     for number in 0..memory.layout().cpus() {
-        put_list(code, memory, Cpu(number), Pool::Nu)?;
-        put_list(code, memory, Cpu(number), Pool::Nm)?;
-        put_list(code, memory, Cpu(number), Pool::Mm)?;
+        gap = put_list(code, memory, Cpu(number), Pool::Nu, gap)?;
+        gap = put_list(code, memory, Cpu(number), Pool::Nm, gap)?;
+        gap = put_list(code, memory, Cpu(number), Pool::Mm, gap)?;
     }
-    Ok(())
+    code.number(16 * gap)
 }
 
-/// Appends one processor's list of one pool: its length, then its frames from the front.
-fn put_list(code: &mut Code, memory: &Memory, cpu: Cpu, pool: Pool) -> Result<(), AllocError>
-    requires { cpu < memory.now.layout.cpus }
-    ensures { OnOk result (code.new ≡ code.old ++ counted_code (cached_list memory.now.state.free cpu pool)) }
+/// Appends one processor's list of one pool: its length, then its frames from the front. Appends
+/// nothing if it is empty. `gap` and the result are those of [`put_area`].
+#[inline(always)]
+fn put_list(
+    code: &mut Code,
+    memory: &Memory,
+    cpu: Cpu,
+    pool: Pool,
+    gap: u64,
+) -> Result<u64, AllocError>
+    requires cpu { cpu < memory.now.layout.cpus }
+    requires gap { gap ≤ 2 ^ 20 }
+    ensures gap { IfOk result (λ next. next ≤ gap + 1) }
+    ensures code { IfOk result (λ next. IsListPut code.old code.new gap next
+        (cached_list memory.now.state.free cpu pool)) }
 {
     memory.is_placed();
     let lists = memory.cpus();
     let count = lists.len(cpu, pool);
-    code.number(u64::from(count))?;
     if count == 0 {
-        return Ok(());
+        return Ok(gap + 1);
     }
+    put_gapped(code, gap, count)?;
     let mut ahead = lists.front(cpu, pool);
     for _number in 0..count {
         let frame = ahead.unwrap();
         code.number(u64::from(frame.0))?;
         ahead = lists.next(frame);
     }
-    Ok(())
+    Ok(0)
 }
 
 /// Appends all pages of all owners.
@@ -200,24 +222,15 @@ fn put_page(code: &mut Code, memory: &Memory, owner: Owner, page: Page) -> Resul
         ++ page_code_at memory.now.layout memory.now.state.pages owner page) }
 {
     memory.is_placed();
-    match memory.frame_at(owner, page) {
+    let pages = memory.pages();
+    match pages.frame_at(owner, page) {
         None => code.number(0),
         Some(frame) => {
-            let words = page_words(memory, owner, page).unwrap();
+            let words = pages.words(owner, page).unwrap();
             code.number(u64::from(frame.0) + 2)?;
             code.numbers(words)
         }
     }
-}
-
-/// Returns the page's words, or `None` if it is not mapped.
-fn page_words(memory: &Memory, owner: Owner, page: Page) -> Option<&[u64]>
-    requires owner { owner < memory.now.layout.owners }
-    requires page { page < memory.now.layout.pages }
-    ensures { option_map (λ words. words.now) result ≡ words_at memory.now.state.pages owner page }
-{
-    memory.is_placed();
-    memory.pages().words(owner, page)
 }
 
 /// Appends the kernel blocks: each start after the number of frames in front of it at which none
@@ -231,7 +244,7 @@ fn put_kernel(code: &mut Code, memory: &Memory) -> Result<(), AllocError>
         match memory.kernel_at(Frame(number)) {
             None => gap += 1,
             Some(order) => {
-                put_start(code, gap, order)?;
+                put_gapped(code, gap, order.0)?;
                 gap = 0;
             }
         }
@@ -239,17 +252,18 @@ fn put_kernel(code: &mut Code, memory: &Memory) -> Result<(), AllocError>
     code.number(16 * gap)
 }
 
-/// Appends the start of a kernel block, after `gap` frames at which none starts. One number has
-/// both if the order is below 14, as it is in every layout.
-fn put_start(code: &mut Code, gap: u64, order: Order) -> Result<(), AllocError>
+/// Appends a number, and how many items are left out in front of it. One number has both if this
+/// one is below 14.
+#[inline(always)]
+fn put_gapped(code: &mut Code, gap: u64, number: u32) -> Result<(), AllocError>
     requires { gap ≤ 2 ^ 20 }
-    ensures { OnOk result (code.new ≡ code.old ++ start_code gap order) }
+    ensures { OnOk result (code.new ≡ code.old ++ gapped_code gap number) }
 {
-    if order.0 < 14 {
-        return code.number(16 * gap + u64::from(order.0) + 1);
+    if number < 14 {
+        return code.number(16 * gap + u64::from(number) + 1);
     }
     code.number(16 * gap + 15)?;
-    code.number(u64::from(order.0))
+    code.number(u64::from(number))
 }
 
 /// Appends the row of each memory block.
@@ -275,19 +289,12 @@ fn put_row(code: &mut Code, row: Row, fixed: Serial, latest: &[Serial]) -> Resul
     ensures { OnOk result
         (code.new ≡ code.old ++ row_code (renumbered_row (number_of fixed latest.now) row)) }
 {
-    let number = row_number(&row);
-    match row.claim {
+    let claim = row.claim;
+    let number = row.state.number() + 4 * row.zone_number();
+    match claim {
         None => code.byte(number),
         Some(claim) => put_claimed(code, number, claim, fixed, latest),
     }
-}
-
-/// Returns the number for a row without its claim.
-fn row_number(row: &Row) -> u8
-    ensures is { result ≡ row_number row.now }
-    ensures small { result < 16 }
-{
-    row.state.number() + 4 * row.zone_number()
 }
 
 /// Appends the byte of a row that is claimed, and then half of the number that `number_of` gives to

@@ -1,6 +1,7 @@
 //! Tests of explorations and their text.
 use hp_explore::Silent;
-use hp_search::{EndsForm, GroupBy, explore_text};
+use hp_parts::explore_text;
+use hp_search::{EndsForm, GroupBy};
 use std::alloc::{AllocError, Global};
 use std::test::Fail;
 use std::thread::Threads;

@@ -2,8 +2,8 @@
 //! explorations and their sums, and scenarios that are refused. Others test the report of a check
 //! on each scenario, scenarios with names, and what hp_schedules and hp_states store for a search.
 //!
-//! They are a crate of their own, as integration tests are, so that hp_search and hp_check are not
-//! proved once more with them. `rt test` in this folder runs them.
+//! They are a crate of their own, as integration tests are, so that hp_search, hp_parts and
+//! hp_check are not proved once more with them. `rt test` in this folder runs them.
 #![tactic(auto)]
 
 #[cfg(test)]

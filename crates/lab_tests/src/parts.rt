@@ -1,9 +1,9 @@
 //! Tests of parts of explorations, and of their sums.
 use crate::explorations::scenario;
 use hp_explore::Silent;
-use hp_part_files::{part_text, sum_text};
+use hp_parts::{explore_text, part_text, sum_text};
 use hp_schedules::ShardId;
-use hp_search::{EndsForm, PartFault, explore_text};
+use hp_search::{EndsForm, PartFault};
 use std::alloc::{AllocError, Global};
 use std::test::Fail;
 use std::thread::Threads;

@@ -1,9 +1,10 @@
 //! Scenarios that are not explored, and why.
 use super::explorations::scenario;
 use hp_explore::Silent;
+use hp_parts::explore_text;
 use hp_requests::ControlFault;
 use hp_scenario::Unfit;
-use hp_search::{EndsForm, LabFault, explore_text};
+use hp_search::{EndsForm, LabFault};
 use std::alloc::{AllocError, Global};
 use std::test::Fail;
 use std::thread::Threads;

@@ -1,7 +1,8 @@
 //! Tests of interleavings that are written as scenarios.
 use super::explorations::scenario;
 use hp_explore::Silent;
-use hp_search::{EndsForm, explore_text};
+use hp_parts::explore_text;
+use hp_search::EndsForm;
 use std::alloc::Global;
 use std::test::Fail;
 use std::thread::Threads;

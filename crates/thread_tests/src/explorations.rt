@@ -3,10 +3,10 @@
 ghost use Rattle.std.specs.Prelude.{◌≡◌, IfOk, length};
 
 use hp_explore::{
-    ExploreFault, Silent, calls_for, explore, explore_part, explore_with_jobs,
-    kept_counts_are_added, play, sum,
+    ExploreFault, Silent, calls_for, explore, explore_part, kept_counts_are_added, play,
 };
 use hp_machine::Machine;
+use hp_parts::{explore_with_jobs, sum};
 use hp_schedules::{
     CallScript, Ending, Replies, Shard, Step, alike_places_go_on_alike, counts_are_unique,
     interleavings_are_counted, schedules_are_interleavings, total_of,

@@ -1,8 +1,8 @@
 -- The text says so, whatever ended the search.
 use Rattle.std.proofs.Common.{string_bytes, subst, sym}
 use Rattle.std.proofs.Common.{List, ℕ}
-use Rattle.hp_search.specs.Explorations.{IsExplorationOf}
-use Rattle.hp_search.proofs.Explorations.{loosely}
+use Rattle.hp_parts.specs.Explorations.{IsExplorationOf}
+use Rattle.hp_parts.proofs.Explorations.{loosely}
 use Rattle.hotplug_lab.proofs.answering.explored.Goals as goal
 
 pub returns-clause-ok : goal.returns-clause-ok

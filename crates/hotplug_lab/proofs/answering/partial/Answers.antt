@@ -1,6 +1,6 @@
 -- The text says so, whatever ended the search.
 use Rattle.std.proofs.Common.{List, ℕ, string_bytes, subst, sym}
-use Rattle.hp_part_files.specs.Parts.{IsPartOf}
+use Rattle.hp_parts.specs.Parts.{IsPartOf}
 use Rattle.hotplug_lab.proofs.PartTexts.{loosely}
 use Rattle.hotplug_lab.proofs.answering.partial.Goals as goal
 

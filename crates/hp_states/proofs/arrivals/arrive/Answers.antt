@@ -45,8 +45,8 @@ leaves_out-requires-clause-on o c =
 pub returns-clause-ok : goal.returns-clause-ok
 returns-clause-ok o c =
     IfOk-weaker c.enter.result _ _
-    (λ entry entered g at. let_in g c.args.records.now c.args.part c.args.processors c.args.tally.now
-    c.enter.new.tally entry (c.requires.processors ∙ at.stood.place.cursors_are.many)
+    (λ treatment entered g at. let_in g c.args.records.now c.args.part c.args.processors c.args.tally.now
+    c.enter.new.tally treatment (c.requires.processors ∙ at.stood.place.cursors_are.many)
     (omega (arith, c.if-records-calls.false, c.calls.ensures))
     (c.leaves_out.ensures.within c.if-leaves_out.false) at.walked
     (entered g c.args.records.now at.stood))

@@ -44,7 +44,8 @@ returns-then-is_stopped-clause-ok o c = λ g news stood. entered_within g news _
 pub returns-in-Some-clause-ok : goal.returns-in-Some-clause-ok
 returns-in-Some-clause-ok o c =
     IfOk-weaker c.add_shares.result _ _
-    (λ entry added g news stood. entered_added g news _ c.add_shares.new.tally c.in-Some.shares.now entry
+    (λ treatment added g news stood. entered_added g news _ c.add_shares.new.tally c.in-Some.shares.now
+    treatment
     (λ adds part within walked.
     found_walked (found o (goal.at.returns-in-Some-clause-ok o c).In-Some g news stood) part _ within walked
     adds)

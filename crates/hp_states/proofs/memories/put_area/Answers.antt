@@ -15,9 +15,9 @@ loop-number-preserved c =
     let here = sym c.loop-number.invariant.ahead ∙ c.unwrap-frame.ensures in
     record {
       code =
-          frame_more _ c.loop-number.code _ _ _ _ c.from-in-loop-number.result here
-          (omega (arith, c.from-in-loop-number.ensures, c.frame.view_is)) c.loop-number.invariant.code
-          c.in_ok-number-2.ensures;
+          frame_more _ c.loop-number.code _ _ _ _ c.from.result here
+          (omega (arith, c.from.ensures, c.frame.view_is)) c.loop-number.invariant.code
+          c.in_ok-number.ensures;
       ahead =
           rw (c.next-ahead.ensures, c.buddy-areas.ensures)
           (area_next _ _ (5 * c.args.order + class_index c.args.class) _ _ c.is_placed.ensures.layout

@@ -1,8 +1,10 @@
-use Rattle.std.proofs.Common.{◌≡◌, ◌*◌, ◌++◌, take}
-use Rattle.std.specs.List.{flat_map}
-use Rattle.hp_states.specs.Parts.{counted_code}
+use Rattle.std.proofs.Common.{◌≡◌, ◌*◌, ◌≤◌, ◌++◌, drop}
+use Rattle.hp_states.specs.Parts.{lists_code}
 use Rattle.hp_states.proofs.memories.put_cached.Given as goal
 
 abbrev pub invariant-loop-number : goal.invariant-loop-number
-invariant-loop-number l =
-    l.code ≡ (l.initial.code ++ flat_map counted_code (take (3 * l.number) l.memory.state.free.cached))
+invariant-loop-number l = record {
+  code : (l.code ++ lists_code l.gap (drop (3 * l.number) l.memory.state.free.cached))
+      ≡ (l.initial.code ++ lists_code 0 l.memory.state.free.cached);
+  gap : l.gap ≤ 3 * l.number;
+}

@@ -15,9 +15,9 @@ loop-number-preserved c =
     let here = sym c.loop-number.invariant.ahead ∙ c.unwrap-frame.ensures in
     record {
       code =
-          frame_more _ c.loop-number.code _ _ _ _ c.from-in-loop-number.result here
-          (omega (arith, c.from-in-loop-number.ensures, c.frame.view_is)) c.loop-number.invariant.code
-          c.in_ok-number-2.ensures;
+          frame_more _ c.loop-number.code _ _ _ _ c.from.result here
+          (omega (arith, c.from.ensures, c.frame.view_is)) c.loop-number.invariant.code
+          c.in_ok-number.ensures;
       ahead =
           rw (c.next-ahead.ensures, c.cpus-lists.ensures)
           (cached_next _ _ (3 * c.args.cpu + pool_index c.args.pool) _ _ c.is_placed.ensures.layout

@@ -11,24 +11,24 @@ use Rattle.hp_states.proofs.Keeping.{memo_added, memo_same}
 use Rattle.hp_explore.proofs.Weights.{left_counted, left_opened}
 use Rattle.hp_explore.proofs.walk.Walk.come_to.Given.{Over}
 use Rattle.hp_explore.proofs.walk.Walk.come_to.Goals as goal
-use Rattle.hp_explore.proofs.walk.Walk.come_to.Goals.{In_ok-entry}
+use Rattle.hp_explore.proofs.walk.Walk.come_to.Goals.{In_ok-treatment}
 
 -- the frame of a place just reached
 abbrev level_at : TallyValue → Level
 level_at t = record { next = 0; is_over = true; start = length t.trail }
 
 -- what the place is, by the path's records
-entered_here : (o : Over) (c : In_ok-entry o)
+entered_here : (o : Over) (c : In_ok-treatment o)
     → IsEntered c.args.self.now.path.setting c.args.self.now.path.news c.args.self.now.part
-    c.args.self.now.tally c.arrive.new.tally c.in_ok-entry.entry
+    c.args.self.now.tally c.arrive.new.tally c.in_ok-treatment.treatment
 entered_here o c =
     let w = c.args.self.now in
-    rw c.records.ensures at (c.in_ok-entry.ensures.ok w.path.setting
+    rw c.records.ensures at (c.in_ok-treatment.ensures.ok w.path.setting
     (arrival w.path w.part c.records.result.now c.memory.result.now c.positions.result.now.cursors.items
     w.tally.ends w.memo c.records.ensures c.memory.ensures c.positions.ensures c.is_played.ensures
     c.requires.coming.walked c.requires.coming.on c.requires.coming.memo c.requires.coming.way))
 
-way_here : (o : Over) (c : In_ok-entry o)
+way_here : (o : Over) (c : In_ok-treatment o)
     → IsOnWay c.args.self.now.path.setting c.args.self.now.path.news c.arrive.new.memo
 way_here o c =
     let p = c.args.self.now.path in
@@ -51,7 +51,7 @@ arrive-requires-clause-arrival o c =
 pub returns-in-Counted-clause-kept : goal.returns-in-Counted-clause-kept
 returns-in-Counted-clause-kept o c =
     let w = c.args.self.now in
-    let here = (goal.at.returns-in-Counted-clause-kept o c).In_ok-entry in
+    let here = (goal.at.returns-in-Counted-clause-kept o c).In_ok-treatment in
     let entered = rw c.in-Counted.is at (entered_here o here) in
     let all = gone_back w.path.setting w.part (length w.tally.trail) w.tally c.arrive.new.tally w.path.news
     (frames_of w) (reverse c.reserve.new.self.items) _ _ _ _ (ap reverse c.in_ok-reserve.ensures.items)
@@ -83,7 +83,8 @@ returns-in-Open-clause-kept o c =
     let w = c.args.self.now in
     let g = w.path.setting in
     let tally = c.arrive.new.tally in
-    let entered = rw c.in-Open.is at (entered_here o (goal.at.returns-in-Open-clause-kept o c).In_ok-entry) in
+    let here = (goal.at.returns-in-Open-clause-kept o c).In_ok-treatment in
+    let entered = rw c.in-Open.is at (entered_here o here) in
     let pushed = frames_pushed _ _ _ _ c.in_ok-reserve.ensures.items c.push_reserved.ensures.items in
     record {
       walked =
@@ -91,7 +92,7 @@ returns-in-Open-clause-kept o c =
           (entered.1 ∙ ap (λ (t : TallyValue). level_at t) (sym entered.0)) entered.2
           (rw entered.0 c.requires.coming.walked) (rw entered.0 c.requires.coming.below));
       memo = rw entered.0 (c.arrive.ensures.memo g w.tally.ends c.requires.coming.memo);
-      way = way_here o (goal.at.returns-in-Open-clause-kept o c).In_ok-entry;
+      way = way_here o here;
       processors = c.requires.coming.processors;
       few = c.requires.coming.few;
       short = c.requires.coming.short;
@@ -100,7 +101,8 @@ returns-in-Open-clause-kept o c =
 pub returns-in-Open-clause-less : goal.returns-in-Open-clause-less
 returns-in-Open-clause-less o c =
     let w = c.args.self.now in
-    let entered = rw c.in-Open.is at (entered_here o (goal.at.returns-in-Open-clause-less o c).In_ok-entry) in
+    let here = (goal.at.returns-in-Open-clause-less o c).In_ok-treatment in
+    let entered = rw c.in-Open.is at (entered_here o here) in
     let pushed = frames_pushed _ _ _ _ c.in_ok-reserve.ensures.items c.push_reserved.ensures.items in
     rw pushed (left_opened w.processors w.path.setting.layout.history (frames_of w) c.in-Open.frame
     (ap (λ (f : Level). f.next) entered.1)

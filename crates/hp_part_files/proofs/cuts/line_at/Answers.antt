@@ -1,6 +1,0 @@
-use Rattle.hp_part_files.proofs.Lines.{line_stands}
-use Rattle.hp_part_files.proofs.cuts.line_at.Goals as goal
-
-pub returns-in-Some-clause-is : goal.returns-in-Some-clause-is
-returns-in-Some-clause-is c =
-    line_stands c.args.input.now c.args.place c.in-Some.end c.requires c.in-Some.ensures

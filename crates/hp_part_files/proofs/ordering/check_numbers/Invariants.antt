@@ -1,5 +1,0 @@
-use Rattle.hp_part_files.specs.Ordering.{ArePlacedBelow}
-use Rattle.hp_part_files.proofs.ordering.check_numbers.Given as goal
-
-abbrev pub invariant-loop-index : goal.invariant-loop-index
-invariant-loop-index l = record { placed : ArePlacedBelow l.index l.parts }

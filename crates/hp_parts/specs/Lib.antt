@@ -1,0 +1,16 @@
+pub mod Adding
+pub mod AllParts
+pub mod Cuts
+pub mod Ends
+pub mod Explorations
+pub mod Faults
+pub mod Gathered
+pub mod Gathering
+pub mod Heads
+pub mod Ordering
+pub mod Parts
+pub mod Processors
+pub mod Reading
+pub mod Sums
+pub mod Taking
+pub mod Texts

@@ -1,0 +1,10 @@
+-- No record so far tells a refusal of the kind.
+use Rattle.std.proofs.Common.{take}
+use Rattle.hp_schedules.specs.Outcomes.{replies_to}
+use Rattle.hp_questions.specs.Wanted.{HasReply}
+use Rattle.hp_questions.specs.declared.wanted.Pattern.TheVariants.{AnyOf}
+use Rattle.hp_questions.proofs.marks.is_refused.Given as goal
+
+abbrev pub invariant-loop-record : goal.invariant-loop-record
+invariant-loop-record l =
+    record { none : HasReply (AnyOf l.fn.wanted) (replies_to l.cpu (take l.record-index l.records)) → ⊥ }
