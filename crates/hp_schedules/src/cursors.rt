@@ -118,22 +118,18 @@ impl Cursor {
     }
 
     /// Returns five numbers: the line, the operation begun last, and the driver's remaining turns,
-    /// its stage and its operation. Returns `None` if an operation's number is 2^64 or greater.
+    /// its stage and its operation. Returns `None` if one of them does not fit 32 bits.
     ///
     /// `fixed` and `latest` number the operations, as [`number_of`] does.
-    pub(crate) fn steering(&self, fixed: Serial, latest: &[Serial]) -> Option<[u64; 5]>
+    pub(crate) fn steering(&self, fixed: Serial, latest: &[Serial]) -> Option<[u32; 5]>
         ensures { IfSome result (λ numbers. numbers ≡ steering_of (number_of fixed latest.now) self.now) }
     {
         let key = self.driver.key();
-        let begun = number_of(fixed, latest, self.op)?;
-        let worked = number_of(fixed, latest, key.op)?;
-        Some([
-            self.line as u64,
-            begun,
-            u64::from(key.left),
-            key.stage,
-            worked,
-        ])
+        let line = u32::try_from(self.line).ok()?;
+        let begun = u32::try_from(number_of(fixed, latest, self.op)?).ok()?;
+        let stage = u32::try_from(key.stage).ok()?;
+        let worked = u32::try_from(number_of(fixed, latest, key.op)?).ok()?;
+        Some([line, begun, key.left, stage, worked])
     }
 
     /// For each line, from the cursor's on, that frees the frame of an earlier KernelAlloc, appends

@@ -138,12 +138,7 @@ impl Positions {
         let Some(steering) = cursor.steering(fixed, latest) else {
             return Ok(false);
         };
-        for number in &steering {
-            let Ok(number) = u32::try_from(*number) else {
-                return Ok(false);
-            };
-            numbers.push(number)?;
-        }
+        numbers.extend_from_slice(&steering)?;
         cursor.push_frames(scripts[place].freeing_lines(), news, Cpu(cpu), numbers)
     }
 

@@ -19,6 +19,7 @@ pub mod Numberings
 pub mod OfPart
 pub mod Parts
 pub mod Rooms
+pub mod Starts
 pub mod Stood
 pub mod StopNumbers
 pub mod Walked

@@ -25,9 +25,8 @@ gapped_code gap number =
     if nat_lt number 14 then number_code (16 * gap + number + 1)
     else number_code (16 * gap + 15) ++ number_code number
 
--- the bytes of many lists, after `gap` empty ones: each list that is not empty is its length after the
--- number of empty ones in front of it, and then its numbers. At the end comes the number of empty lists
--- behind the last one
+-- the bytes of many lists, after `gap` empty ones: for each list that is not empty, the number of empty
+-- lists before it, its length and its numbers; at the end, the number of empty lists after the last one
 abbrev pub lists_code : (gap : ℕ) → List (List ℕ) → List ℕ
 lists_code gap [] = number_code (16 * gap)
 lists_code gap ([] ∷ lists) = lists_code (gap + 1) lists
@@ -35,8 +34,8 @@ lists_code gap ((number ∷ numbers) ∷ lists) =
     gapped_code gap (length (number ∷ numbers))
     ++ (flat_map number_code (number ∷ numbers) ++ lists_code 0 lists)
 
--- the numbers of one more list are written behind `old`: after them `next` lists are left out, as `gap` were
--- before, whatever lists come later
+-- the numbers of one more list are appended to `old`: `gap` empty lists were left out before it, and `next`
+-- are left out now, whatever lists come later
 abbrev pub IsListPut : (old new : List ℕ) → (gap next : ℕ) → (numbers : List ℕ) → Type 0
 IsListPut old new gap next numbers =
     (later : List (List ℕ)) → new ++ lists_code next later ≡ old ++ lists_code gap (numbers ∷ later)
@@ -68,9 +67,9 @@ page_code_at l ps owner page = page_code l.words (frame_at ps owner page) (words
 abbrev pub owner_code : LayoutParts → Pages → (owner : ℕ) → List ℕ
 owner_code l ps owner = flat_map (page_code_at l ps owner) (range_with_len 0 l.pages)
 
--- the kernel blocks that start at the frames of a list, after `gap` frames at which none starts: the order
--- of each after the number of such frames in front of it, and then the number of those behind the last one.
--- The order is below 14 in every layout
+-- the bytes of the kernel blocks that start at the frames of a list, after `gap` frames at which none
+-- starts: for each block, the number of such frames before it and its order; at the end, the number of such
+-- frames after the last block. The order is below 14 in every layout
 abbrev pub kernel_code : (gap : ℕ) → List (Option ℕ) → List ℕ
 kernel_code gap [] = number_code (16 * gap)
 kernel_code gap (None ∷ orders) = kernel_code (gap + 1) orders
@@ -108,7 +107,7 @@ abbrev pub claim_number : Option Claim → ℕ
 claim_number None = 0
 claim_number (Some claim) = wish_number claim.wish + 4 * (claim.op % 2)
 
--- the bytes behind a claim's number: half of its operation's number, rounded down
+-- the bytes after a claim's number: half of its operation's number, rounded down
 abbrev pub claim_code : Option Claim → List ℕ
 claim_code None = []
 claim_code (Some claim) = number_code (claim.op / 2)

@@ -1,5 +1,5 @@
 //! The encoding of a memory's state, part by part.
-ghost use Rattle.std.specs.Prelude.{◌≡◌, ◌+◌, ◌*◌, ◌/◌, ◌^◌, ◌<◌, ◌≤◌, ◌∷◌, ◌++◌, IfOk, OnOk, Some};
+ghost use Rattle.std.specs.Prelude.{◌≡◌, ◌+◌, ◌*◌, ◌/◌, ◌^◌, ◌<◌, ◌≤◌, ◌∷◌, ◌++◌, IfOk, OnOk, Some, length};
 ghost use Rattle.std.specs.List.{flat_map, range_with_len};
 ghost use Rattle.hp_units.specs.Arithmetic.{pageblock_count};
 ghost use Rattle.hp_units.specs.Memory.{cached_list, free_list};
@@ -12,9 +12,10 @@ ghost use Rattle.hp_states.specs.Parts.{auto_number, claim_code, claim_number, g
 use crate::code::Code;
 use hp_laws::place_of;
 use hp_memory::Memory;
+use hp_pages::KernelBlocks;
 use hp_units::{
-    Auto, Block, Claim, Class, Cpu, Frame, Kind, Mobility, Order, Owner, Page, Pageblock, Pool,
-    Row, Serial, Wish,
+    Auto, Block, Claim, Class, Cpu, Kind, Mobility, Order, Owner, Page, Pageblock, Pool, Row,
+    Serial, Wish,
 };
 use std::alloc::AllocError;
 
@@ -33,7 +34,7 @@ pub(crate) fn put_memory(
     put_kinds(code, memory)?;
     put_cached(code, memory)?;
     put_pages(code, memory)?;
-    put_kernel(code, memory)?;
+    put_kernel(code, memory.kernel(), memory.layout().frames())?;
     put_rows(code, memory, fixed, latest)?;
     code.byte(auto_number(memory.auto()))?;
     Ok(())
@@ -233,27 +234,24 @@ fn put_page(code: &mut Code, memory: &Memory, owner: Owner, page: Page) -> Resul
     }
 }
 
-/// Appends the kernel blocks: each start after the number of frames in front of it at which none
-/// starts, and then the number of such frames behind the last one.
-fn put_kernel(code: &mut Code, memory: &Memory) -> Result<(), AllocError>
-    requires { IsShaped memory.now.layout memory.now.state }
-    ensures { OnOk result (code.new ≡ code.old ++ kernel_code 0 memory.now.state.kernel) }
+/// Appends the kernel blocks: for each, the number of frames before it at which none starts and its
+/// order; at the end, the number of such frames after the last block.
+fn put_kernel(code: &mut Code, kernel: &KernelBlocks, frames: u32) -> Result<(), AllocError>
+    requires size { length kernel.now ≡ frames }
+    requires small { frames ≤ 2 ^ 20 }
+    ensures { OnOk result (code.new ≡ code.old ++ kernel_code 0 kernel.now) }
 {
-    let mut gap = 0u64;
-    for number in 0..memory.layout().frames() {
-        match memory.kernel_at(Frame(number)) {
-            None => gap += 1,
-            Some(order) => {
-                put_gapped(code, gap, order.0)?;
-                gap = 0;
-            }
-        }
+    let mut from = 0;
+    while let Some(frame) = kernel.lowest(from, frames - from) {
+        let order = kernel.order_at(frame).unwrap();
+        put_gapped(code, u64::from(frame.0 - from), order.0)?;
+        from = frame.0 + 1;
     }
-    code.number(16 * gap)
+    code.number(16 * u64::from(frames - from))
 }
 
-/// Appends a number, and how many items are left out in front of it. One number has both if this
-/// one is below 14.
+/// Appends a number, and how many items are left out before it. One number has both if this one is
+/// below 14.
 #[inline(always)]
 fn put_gapped(code: &mut Code, gap: u64, number: u32) -> Result<(), AllocError>
     requires { gap ≤ 2 ^ 20 }

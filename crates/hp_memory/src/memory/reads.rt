@@ -7,7 +7,7 @@ ghost use Rattle.hp_pages.specs.Pages.{AreSettled};
 
 use crate::memory::Memory;
 use hp_buddy::{Buddy, Cpus};
-use hp_pages::{Blocks, Pages};
+use hp_pages::{Blocks, KernelBlocks, Pages};
 use hp_units::{Auto, Block, Class, Frame, Kind, Order, Owner, Page, Pageblock, Row};
 
 impl Memory {
@@ -54,6 +54,14 @@ impl Memory {
             return None;
         }
         self.layers.kernel.order_at(frame)
+    }
+
+    /// Returns the kernel blocks. In contracts, their value has the order of the block that starts
+    /// at each frame.
+    pub fn kernel(&self) -> &KernelBlocks
+        ensures { result.now ≡ self.now.state.kernel }
+    {
+        &self.layers.kernel
     }
 
     /// Returns the row of a memory block, or `None` past the last one (Linux, memory hotplug:

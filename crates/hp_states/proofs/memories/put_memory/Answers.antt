@@ -10,5 +10,6 @@ returns c =
     written c.args.memory.now.layout
     (renumbered (number_of c.args.fixed c.args.latest.now) c.args.memory.now.state) _ _ _ _ _ _ _ _ _
     c.in_ok-put_areas.ensures c.in_ok-put_kinds.ensures c.in_ok-put_cached.ensures
-    c.in_ok-put_pages.ensures c.in_ok-put_kernel.ensures c.in_ok-put_rows.ensures c.in_ok-byte.ensures
+    c.in_ok-put_pages.ensures (rw (← c.kernel.ensures) c.in_ok-put_kernel.ensures) c.in_ok-put_rows.ensures
+    c.in_ok-byte.ensures
     (c.auto_number.ensures ∙ ap auto_number c.auto.ensures)

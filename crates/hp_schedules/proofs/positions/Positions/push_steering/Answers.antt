@@ -1,5 +1,5 @@
 -- The numbers of the processor's cursor, and those of the frames that its further lines name.
-use Rattle.std.proofs.Common.{◌≡◌, ◌++◌, ◌∙◌, ℕ, List, ap, arith, refl, take}
+use Rattle.std.proofs.Common.{◌≡◌, ◌++◌, ◌∙◌, ℕ, List, ap, refl}
 use Rattle.std.proofs.lemmas.List.{append_assoc}
 use Rattle.std.proofs.lemmas.Option.{slice_get_read}
 use Rattle.std.proofs.lemmas.Result.{IfOk-weaker}
@@ -12,11 +12,10 @@ use Rattle.hp_schedules.proofs.positions.Positions.push_steering.Goals as goal
 pub returns : goal.returns
 returns c =
     let f : ℕ → ℕ = number_of c.args.fixed c.args.latest.now in
-    let whole : c.loop-number.number-index ≡ 5 = omega arith in
-    let five : c.loop-number.numbers.items
+    let five : c.extend_from_slice.new.self.items
     ≡ c.args.numbers.now.items ++ steering_of f c.index-cursor.result.now =
-    c.loop-number.invariant ∙ ap (λ (xs : List ℕ). c.args.numbers.now.items ++ xs)
-    (ap (λ (n : ℕ). take n c.in-Some.steering) whole ∙ ap (take 5) c.in-Some.ensures) in
+    c.in_ok-extend_from_slice.ensures.items ∙ ap (λ (xs : List ℕ). c.args.numbers.now.items ++ xs)
+    c.in-Some.ensures in
     IfOk-weaker c.push_frames.result _ _
     (λ fit adds all. (
       steering_of f c.index-cursor.result.now
