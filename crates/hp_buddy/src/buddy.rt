@@ -112,6 +112,21 @@ impl Buddy {
         self.kinds[pageblock.0 as usize]
     }
 
+    /// Returns the lists of free blocks. That of a class and an order has the number of the class
+    /// and five for each order.
+    pub fn links(&self) -> &Links
+        ensures { result.now.lists ≡ self.now.areas.lists }
+    {
+        &self.links
+    }
+
+    /// Returns the kinds of all pageblocks, from pageblock 0 on.
+    pub fn kinds(&self) -> &[Kind]
+        ensures { result.now ≡ self.now.areas.kinds }
+    {
+        self.kinds.as_slice()
+    }
+
     /// Returns the number of free blocks of a class and an order. Takes constant time.
     pub fn len(&self, class: Class, order: Order) -> u32
         requires { order ≤ self.now.layout.order }

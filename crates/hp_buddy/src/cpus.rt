@@ -69,6 +69,13 @@ impl Cpus {
         Ok(Cpus { layout, links })
     }
 
+    /// Returns the lists of all processors, three for each, in the order of the pools.
+    pub fn links(&self) -> &Links
+        ensures { result.now.lists ≡ self.now.cached }
+    {
+        &self.links
+    }
+
     /// Returns the number of frames on a processor's list of a pool. Takes constant time.
     pub fn len(&self, cpu: Cpu, pool: Pool) -> u32
         requires { cpu < self.now.layout.cpus }

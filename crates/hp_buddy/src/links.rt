@@ -44,6 +44,21 @@ impl Links {
         Ok(Links { rings })
     }
 
+    /// Called for its contract: each frame on a list is below `frame_count`, on one list, and there
+    /// once.
+    pub fn are_apart(&self)
+        ensures { IsApart self.now }
+    {
+        let _ = &self.rings;
+    }
+
+    /// Returns the number of lists.
+    pub fn count(&self) -> u32
+        ensures { result ≡ length self.now.lists }
+    {
+        self.rings.lens.len() as u32
+    }
+
     /// Returns the first frame of a list.
     pub fn front(&self, list: ListNumber) -> Option<Frame>
         requires { list < length self.now.lists }
@@ -89,11 +104,19 @@ impl Links {
             → result ≡ successor frame (list_at self.now list) }
         ensures free { IsUnlisted self.now frame → result ≡ None }
     {
-        let place = place_of(frame);
-        if self.rings.list(place).is_none() {
+        if self.rings.list(place_of(frame)).is_none() {
             return None;
         }
-        self.rings.frame_at(self.rings.next(place))
+        self.after(frame)
+    }
+
+    /// Returns the frame after this one, which must be on a list.
+    pub fn after(&self, frame: Frame) -> Option<Frame>
+        requires { IsListed self.now frame }
+        ensures { (list : ℕ) → IsOn self.now list frame
+            → result ≡ successor frame (list_at self.now list) }
+    {
+        self.rings.frame_at(self.rings.next(place_of(frame)))
     }
 
     /// Returns the frames of a list, front first.

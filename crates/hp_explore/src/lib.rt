@@ -14,7 +14,6 @@
 
 mod absent;
 mod aim;
-mod calls;
 mod causes;
 mod changes;
 mod done_places;
@@ -37,7 +36,6 @@ mod ways;
 mod within;
 
 pub use aim::Aim;
-pub use calls::calls_for;
 pub use causes::push_all_causes;
 pub use changes::changes_of;
 pub use exploring::{Exploration, ExploreFault, explore, explore_part, room_needed};

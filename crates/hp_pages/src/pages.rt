@@ -138,8 +138,9 @@ impl Pages {
         }
     }
 
-    /// Returns the words in a frame: zeros if it has no buffer.
-    fn words_in(&self, frame: Frame) -> &[u64]
+    /// Returns the words in a frame: zeros if it has no buffer. These are the words of the page
+    /// that it holds, if any.
+    pub fn words_in(&self, frame: Frame) -> &[u64]
         requires { IsFrame self.now.layout frame }
         ensures words { result.now ≡ words_in self.now.layout self.now.pages frame }
         ensures size { length result.now ≡ self.now.layout.words }

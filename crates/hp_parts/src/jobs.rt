@@ -9,9 +9,10 @@ ghost use Rattle.hp_schedules.specs.Schedules.{IsComplete};
 ghost use Rattle.hp_explore.specs.Settings.{setting};
 ghost use Rattle.hp_parts.specs.AllParts.{AreParts, HaveRoom, part};
 
+use crate::calls::calls_for;
 use crate::merging::sum;
 use crate::rooms::left_after;
-use hp_explore::{Exploration, ExploreFault, MOST_JOBS, Watch, calls_for, explore, explore_part};
+use hp_explore::{Exploration, ExploreFault, MOST_JOBS, Watch, explore, explore_part};
 use hp_machine::Machine;
 use hp_schedules::{CallScript, Ending, Shard};
 use std::alloc::Global;

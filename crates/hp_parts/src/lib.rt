@@ -1,17 +1,19 @@
 //! Explores a scenario's interleavings in parts: in threads side by side, or on any machines, each
 //! of which writes its part as a file.
 //!
-//! `exploring` returns the text of a whole exploration. `jobs` explores the parts in threads, and
-//! `merging` merges their ends. `parts` explores one part, and writes JSON, one object per line: a
-//! head that names the search and the part (`heads`), then each end with the processors of its
-//! first interleaving. `summing` adds up such texts, and plays each of these interleavings again,
-//! so it finds a line that does not match its own. The crate opens no file and no stream.
+//! `exploring` returns the text of a whole exploration. `calls` says how many first calls decide
+//! the part that an interleaving belongs to. `jobs` explores the parts in threads, and `merging`
+//! merges their ends. `parts` explores one part, and writes JSON, one object per line: a head that
+//! names the search and the part (`heads`), then each end with the processors of its first
+//! interleaving. `summing` adds up such texts, and plays each of these interleavings again, so it
+//! finds a line that does not match its own. The crate opens no file and no stream.
 //!
 //! Read specs/AllParts, specs/Adding and specs/Explorations first (what `explore_with_jobs`, `sum`
 //! and `explore_text` promise), then specs/Heads, specs/Reading, specs/Ordering and specs/Texts,
 //! and specs/Parts and specs/Sums (`part_text` and `sum_text`).
 #![tactic(auto)]
 
+mod calls;
 mod cuts;
 mod earlier;
 mod ends;
@@ -31,6 +33,7 @@ mod summing;
 mod taking;
 mod writing;
 
+pub use calls::calls_for;
 pub use cuts::{line_at, line_number};
 pub use exploring::explore_text;
 pub use gathering::{Gathering, PartEnds};

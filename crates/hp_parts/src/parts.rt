@@ -6,8 +6,9 @@ ghost use Rattle.hp_search.specs.Prepared.{names_of, setting_of};
 ghost use Rattle.hp_parts.specs.Parts.{IsFullPart, IsPartCause, IsPartOf, IsPartOn, IsToldPart};
 
 use crate::Search;
+use crate::calls::calls_for;
 use crate::writing::write_part;
-use hp_explore::{Exploration, ExploreFault, Watch, calls_for, explore_part};
+use hp_explore::{Exploration, ExploreFault, Watch, explore_part};
 use hp_schedules::{ShardId, total_of};
 use hp_search::{LabFault, Prepared, SearchText, prepare, write_more};
 use simdutf8::basic::from_utf8;

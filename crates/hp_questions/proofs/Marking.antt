@@ -1,6 +1,6 @@
 -- What the replies so far have, and what ends that go on from them have.
 use Rattle.std.proofs.Common.{◌≡◌, ℕ, zero, suc, ◌+◌, ◌<◌, true, false, not, List, [], ◌∷◌, ◌++◌, get_or, length, take, eqb, Option, Some, None, slice_get, refl, ap, sym, subst, ◌∙◌, arith, inl, inr}
-use Rattle.std.proofs.lemmas.Bool.{not-false, not-true}
+use Rattle.std.proofs.lemmas.Bool.{cases_eq, eq-eqb, ne_eqb, not-false, not-true}
 use Rattle.std.proofs.lemmas.List.{length_push, map-append}
 use Rattle.std.proofs.lemmas.List.Elements.{filter-append}
 use Rattle.std.proofs.lemmas.Option.{same_Some, slice_get_within}
@@ -81,13 +81,13 @@ module _ (cpu : ℕ) (news : List Record) (k : ℕ) (r : Record) (less : k < len
   told_here own = told_at cpu news k r here (not-false _ own)
 
   -- one that matches
-  pub told_match : (p : Pattern) → not (eqb r.cpu cpu) ≡ false → IsAsWanted p (told r.reply)
+  told_match : (p : Pattern) → not (eqb r.cpu cpu) ≡ false → IsAsWanted p (told r.reply)
       → HasReply p (replies_to cpu news)
   told_match p own matches =
       (length (replies_to cpu (take k news)), told r.reply, told_here own, matches)
 
   -- one that does not match
-  pub told_no_more : (p : Pattern) → not (eqb r.cpu cpu) ≡ false → (IsAsWanted p (told r.reply) → ⊥)
+  told_no_more : (p : Pattern) → not (eqb r.cpu cpu) ≡ false → (IsAsWanted p (told r.reply) → ⊥)
       → (HasReply p (replies_to cpu (take k news)) → ⊥)
       → HasReply p (replies_to cpu (take (k + 1) news)) → ⊥
   told_no_more p own other none =
@@ -96,6 +96,29 @@ module _ (cpu : ℕ) (news : List Record) (k : ℕ) (r : Record) (less : k < len
         | inl at ↦ none (has.0, has.1, at, has.3)
         | inr last ↦ other (subst (IsAsWanted p) (sym last.1) has.3)
       ])
+
+-- no record tells a processor below the number a reply that matches
+abbrev pub NoneBelow : Pattern → (n : ℕ) → List Record → Type 0
+NoneBelow p n news = (cpu : ℕ) → cpu < n → HasReply p (replies_to cpu news) → ⊥
+
+-- the record at a place that a loop has reached, among those to all processors
+module _ (news : List Record) (k : ℕ) (r : Record) (less : k < length news) (read : r ≡ get_or news k r)
+    (p : Pattern) where
+  pub told_match_own : IsAsWanted p (told r.reply) → HasReply p (replies_to r.cpu news)
+  told_match_own = told_match r.cpu news k r less read p (ap not (eq-eqb r.cpu r.cpu refl))
+
+  -- a processor that it tells nothing that matches gets no such reply
+  pub none_more : (cpu : ℕ) → (r.cpu ≡ cpu → IsAsWanted p (told r.reply) → ⊥)
+      → (HasReply p (replies_to cpu (take k news)) → ⊥) → HasReply p (replies_to cpu (take (k + 1) news)) → ⊥
+  none_more cpu other none = elim (cases_eq r.cpu cpu) [
+    | inl same ↦
+        told_no_more cpu news k r less read p (ap not (eq-eqb r.cpu cpu same)) (other same) none
+    | inr apart ↦ rw (told_past cpu news k r less read (ap not (ne_eqb r.cpu cpu apart))) none
+  ]
+
+  pub none_below_more : (n : ℕ) → (r.cpu < n → IsAsWanted p (told r.reply) → ⊥)
+      → NoneBelow p n (take k news) → NoneBelow p n (take (k + 1) news)
+  none_below_more n other none cpu low = none_more cpu (λ same. other (rw same low)) (none cpu low)
 
 -- ---- answers and ends of plans
 

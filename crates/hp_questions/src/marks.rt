@@ -4,12 +4,12 @@ ghost use Rattle.std.specs.List.{range_with_len};
 ghost use Rattle.hp_schedules.specs.declared.scripts.Step.{Step};
 ghost use Rattle.hp_schedules.specs.Outcomes.{replies_below, replies_to, told};
 ghost use Rattle.hp_questions.specs.Marks.{AreCountedIf, AreMarks, AreMet, HasLineSoFar, HasReplySoFar, IsLost, IsMissed, IsRuledOut, asks_no_places, asks_no_plans, leaves_places, leaves_plans, line_of};
+ghost use Rattle.hp_questions.specs.Patterns.{IsAsWanted};
 ghost use Rattle.hp_questions.specs.Wanted.{HasAnswer, HasAnswerAt, HasReply};
-ghost use Rattle.hp_questions.specs.declared.wanted.Pattern.TheVariants.{AnyOf, Exactly};
 
-use crate::wanted::{EndLine, Pattern, Wanted, is_of_kind, kind_of};
+use crate::wanted::{EndLine, Pattern, Wanted, is_of_kind};
 use hp_schedules::{CallScript, all_answers};
-use hp_units::{Cpu, Record, Refusal, Reply, Serial};
+use hp_units::{Cpu, Record, Reply, Serial};
 use std::alloc::{AllocError, Global};
 
 /// Appends the marks of the place in a search to which these records lead. The first mark is the
@@ -235,7 +235,7 @@ fn has_reply_so_far(line: &EndLine, processors: u32, records: &[Record]) -> bool
 }
 
 /// Returns whether a reply to processor `cpu` matches. If `cpu` is `None`, a reply to any processor
-/// counts.
+/// counts. Only processors below `processors` count.
 fn is_answered(reply: &Pattern, cpu: Option<Cpu>, processors: u32, records: &[Record]) -> bool
     ensures { IsTrue result ↔ HasAnswer reply.now (replies_below processors records.now) cpu }
 {
@@ -270,41 +270,45 @@ fn is_answered_at(
     }
 }
 
-/// Returns whether any processor got a reply that matches.
+/// Returns whether a processor below `processors` got a reply that matches.
 fn is_told_to_any(reply: &Pattern, processors: u32, records: &[Record]) -> bool
     ensures { IsTrue result ↔ HasAnswer reply.now (replies_below processors records.now) None }
 {
-    for cpu in 0..processors {
-        if is_told(reply, Cpu(cpu), records) {
+    for record in records {
+        if !is_met_as_told(reply, &record.reply) {
+            continue;
+        }
+        if record.cpu.0 < processors {
             return true;
         }
     }
     false
 }
 
-/// Returns whether a reply to the processor matches.
+/// Returns whether the processor got a reply that matches.
 fn is_told(reply: &Pattern, cpu: Cpu, records: &[Record]) -> bool
     ensures { IsTrue result ↔ HasReply reply.now (replies_to cpu records.now) }
 {
-    match reply {
-        Pattern::Exactly(wanted) => is_told_exactly(wanted, cpu, records),
-        Pattern::AnyOf(wanted) => is_refused(*wanted, cpu, records),
-    }
-}
-
-/// Returns whether the processor got the reply `wanted`, as an end has it.
-fn is_told_exactly(wanted: &Reply, cpu: Cpu, records: &[Record]) -> bool
-    ensures { IsTrue result ↔ HasReply (Exactly wanted.now) (replies_to cpu records.now) }
-{
     for record in records {
-        if record.cpu != cpu {
+        if !is_met_as_told(reply, &record.reply) {
             continue;
         }
-        if is_told_as(wanted, &record.reply) {
+        if record.cpu == cpu {
             return true;
         }
     }
     false
+}
+
+/// Returns whether the reply matches, as an end has it ([`told`]). Copies no reply.
+#[inline(always)]
+fn is_met_as_told(pattern: &Pattern, reply: &Reply) -> bool
+    ensures { IsTrue result ↔ IsAsWanted pattern.now (told reply.now) }
+{
+    match pattern {
+        Pattern::Exactly(wanted) => is_told_as(wanted, reply),
+        Pattern::AnyOf(wanted) => is_of_kind(*wanted, reply),
+    }
 }
 
 /// Returns whether [`told`] returns `wanted` for the reply. Copies no reply.
@@ -315,23 +319,6 @@ fn is_told_as(wanted: &Reply, reply: &Reply) -> bool
         Reply::Opened { .. } => Reply::Opened { op: Serial(0) }.same(wanted),
         _ => reply.same(wanted),
     }
-}
-
-/// Returns whether a call of the processor was refused for the same reason as `wanted`, whatever
-/// frame or block either names.
-fn is_refused(wanted: Refusal, cpu: Cpu, records: &[Record]) -> bool
-    ensures { IsTrue result ↔ HasReply (AnyOf wanted) (replies_to cpu records.now) }
-{
-    let kind = kind_of(wanted);
-    for record in records {
-        if record.cpu != cpu {
-            continue;
-        }
-        if is_of_kind(&kind, &record.reply) {
-            return true;
-        }
-    }
-    false
 }
 
 /// Returns the processor's reply after `earlier` others, if it has come.

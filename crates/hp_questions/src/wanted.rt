@@ -1,6 +1,5 @@
 //! What is wanted of an end, and which ends meet it.
 ghost use Rattle.std.specs.Prelude.{◌≡◌, ◌↔◌, IfOk, IsTrue, None, Some, slice_get};
-ghost use Rattle.hp_units.specs.declared.replies.Refusal.{Refusal as AnyRefusal};
 ghost use Rattle.hp_questions.specs.Patterns.{IsAsWanted, IsKindOf, kind_of};
 ghost use Rattle.hp_questions.specs.Wanted.{HasAnswer, HasAnswerAt, HasLine, HasReply, HasReplyAt, IsMetBy, Meets};
 
@@ -61,7 +60,7 @@ impl Pattern {
     {
         match self {
             Pattern::Exactly(wanted) => reply.same(wanted),
-            Pattern::AnyOf(wanted) => is_of_kind(&kind_of(*wanted), reply),
+            Pattern::AnyOf(wanted) => is_of_kind(*wanted, reply),
         }
     }
 
@@ -206,18 +205,19 @@ fn same_row(row: &Row, other: &Row) -> bool
     *row == *other
 }
 
-/// Returns whether the reply is a refusal of this kind, which [`kind_of`] returned.
-pub(crate) fn is_of_kind(kind: &Refusal, reply: &Reply) -> bool
-    ensures { (wanted : AnyRefusal) → kind.now ≡ kind_of wanted → IsTrue result ↔ IsKindOf wanted reply.now }
+/// Returns whether the reply is a refusal for the same reason as `wanted`, whatever frame or block
+/// either names.
+pub(crate) fn is_of_kind(wanted: Refusal, reply: &Reply) -> bool
+    ensures { IsTrue result ↔ IsKindOf wanted reply.now }
 {
     match reply {
-        Reply::Refused(refusal) => kind_of(*refusal).same(*kind),
+        Reply::Refused(refusal) => kind_of(*refusal).same(kind_of(wanted)),
         _ => false,
     }
 }
 
 /// Returns the refusal with 0 in place of the frame or block that it names.
-pub(crate) fn kind_of(refusal: Refusal) -> Refusal
+fn kind_of(refusal: Refusal) -> Refusal
     ensures { result ≡ kind_of refusal }
 {
     match refusal {

@@ -282,7 +282,7 @@ kernel-apart gap _ _ xs ys size e = absurd (omega arith)
 
 -- ---- lists, of which the empty ones are left out
 
--- the code of a list that is not empty, and of those behind it
+-- the code of a list that is not empty, and of those after it
 list_parts : (gap n : ℕ) (ns : List ℕ) (lists : List (List ℕ)) (xs : List ℕ)
     → lists_code gap ((n ∷ ns) ∷ lists) ++ xs
     ≡ gapped_code gap (length (n ∷ ns)) ++ (flat_map number_code (n ∷ ns) ++ (lists_code 0 lists ++ xs))

@@ -4,7 +4,6 @@ pub mod Counts
 pub mod Ended
 pub mod Entered
 pub mod Exchanged
-pub mod FreeLists
 pub mod Grown
 pub mod InRows
 pub mod Joined

@@ -1,11 +1,11 @@
 -- The codes of the parts of a state, and of a whole state, tell them apart.
-use Rattle.std.proofs.Common.{◌+◌, ◌*◌, ◌/◌, ◌%◌, ℕ, zero, suc, ◌≡◌, ◌<◌, ◌≤◌, List, [], ◌∷◌, ◌++◌, Bool, true, false, Option, None, Some, length, refl, sym, ◌∙◌, ap, subst, arith, append_assoc, inl, inr}
+use Rattle.std.proofs.Common.{◌+◌, ◌*◌, ◌/◌, ◌%◌, ℕ, zero, suc, ◌≡◌, ◌<◌, ◌≤◌, List, [], ◌∷◌, ◌++◌, Bool, true, false, Option, None, Some, length, refl, sym, ◌∙◌, ap, subst, arith, append_assoc, inl, inr, slice_index_or}
 use Rattle.std.proofs.lemmas.Bool.{cases_eq}
 use Rattle.std.proofs.lemmas.List.{ext_get_or}
 use Rattle.std.specs.List.{AllByRecursion, flat_map, range_with_len}
 use Rattle.hp_units.specs.Arithmetic.{pageblock_count}
 use Rattle.hp_units.specs.LayoutParts.{LayoutParts}
-use Rattle.hp_units.specs.Memory.{FreeAreas, Memory, Pages, entry_of, kind_of, plain_kind}
+use Rattle.hp_units.specs.Memory.{Memory, Pages, entry_of, plain_kind}
 use Rattle.hp_units.specs.Pages.{frame_at, words_at}
 use Rattle.hp_units.specs.Placement.{IsShaped}
 use Rattle.hp_units.specs.declared.rows.Auto.{Auto}
@@ -83,18 +83,20 @@ kind_small Movable false = omega arith
 kind_small Unmovable true = omega arith
 kind_small Movable true = omega arith
 
-pub kind_at_small : (a : FreeAreas) (pageblock : ℕ) → kind_at a pageblock < 4
-kind_at_small a pageblock = kind_small (kind_of a pageblock).mobility (kind_of a pageblock).isolated
+pub kind_at_small : (a : List Kind) (pageblock : ℕ) → kind_at a pageblock < 4
+kind_at_small a pageblock =
+    let kind = slice_index_or a pageblock plain_kind in
+    kind_small kind.mobility kind.isolated
 
-kind_at-same : (a b : FreeAreas) (pageblock : ℕ) → kind_at a pageblock ≡ kind_at b pageblock
-    → kind_of a pageblock ≡ kind_of b pageblock
+kind_at-same : (a b : List Kind) (pageblock : ℕ) → kind_at a pageblock ≡ kind_at b pageblock
+    → slice_index_or a pageblock plain_kind ≡ slice_index_or b pageblock plain_kind
 kind_at-same a b pageblock e =
-    let p = kind_of a pageblock in
-    let q = kind_of b pageblock in
+    let p = slice_index_or a pageblock plain_kind in
+    let q = slice_index_or b pageblock plain_kind in
     sym (kind_back p.mobility p.isolated) ∙ (ap kind_numbered e ∙ kind_back q.mobility q.isolated)
 
 -- the kinds of four pageblocks are the same
-record AreFourSame (a b : FreeAreas) (four : ℕ) : Type 0 where
+record AreFourSame (a b : List Kind) (four : ℕ) : Type 0 where
   first : kind_at a (4 * four) ≡ kind_at b (4 * four)
   second : kind_at a (4 * four + 1) ≡ kind_at b (4 * four + 1)
   third : kind_at a (4 * four + 2) ≡ kind_at b (4 * four + 2)
@@ -106,7 +108,7 @@ fours_apart : (p q r s x y z w : ℕ) → p < 4 → q < 4 → r < 4 → x < 4 �
     → (p ≡ x) × (q ≡ y) × (r ≡ z) × (s ≡ w)
 fours_apart p q r s x y z w a b c d e f same = (omega arith, omega arith, omega arith, omega arith)
 
-four_kinds-apart : (a b : FreeAreas) (four : ℕ) (xs ys : List ℕ)
+four_kinds-apart : (a b : List Kind) (four : ℕ) (xs ys : List ℕ)
     → kinds_code a four ++ xs ≡ kinds_code b four ++ ys → AreFourSame a b four × (xs ≡ ys)
 four_kinds-apart a b four xs ys e =
     let h = heads e in
@@ -118,7 +120,7 @@ four_kinds-apart a b four xs ys e =
     (record { first = each.0; second = each.1; third = each.2; fourth = each.3 }, h.1)
 
 -- one of four
-one_of : (a b : FreeAreas) (pageblock : ℕ) → AreFourSame a b (pageblock / 4)
+one_of : (a b : List Kind) (pageblock : ℕ) → AreFourSame a b (pageblock / 4)
     → kind_at a pageblock ≡ kind_at b pageblock
 one_of a b pageblock same = elim (cases_eq (pageblock % 4) 0) [
   | inl zeroth ↦ (let here : 4 * (pageblock / 4) ≡ pageblock = omega (arith, zeroth) in
@@ -135,15 +137,15 @@ one_of a b pageblock same = elim (cases_eq (pageblock % 4) 0) [
   ]
 ]
 
-kinds-apart : (a b : FreeAreas) (count : ℕ) (xs ys : List ℕ) → length a.kinds ≡ count
-    → length b.kinds ≡ count
+kinds-apart : (a b : List Kind) (count : ℕ) (xs ys : List ℕ) → length a ≡ count
+    → length b ≡ count
     → flat_map (kinds_code a) (range_with_len 0 ((count + 3) / 4)) ++ xs
     ≡ flat_map (kinds_code b) (range_with_len 0 ((count + 3) / 4)) ++ ys
-    → (a.kinds ≡ b.kinds) × (xs ≡ ys)
+    → (a ≡ b) × (xs ≡ ys)
 kinds-apart a b count xs ys p q e =
     let h = range-apart (kinds_code a) (kinds_code b) (AreFourSame a b) (four_kinds-apart a b) 0
     ((count + 3) / 4) xs ys e in (
-      ext_get_or plain_kind a.kinds b.kinds (p ∙ sym q)
+      ext_get_or plain_kind a b (p ∙ sym q)
           (λ i low. kind_at-same a b i (one_of a b i (h.0 (i / 4) (omega arith) (omega (arith, low, p))))),
       h.1,
     )
@@ -255,7 +257,7 @@ row-apart a b xs ys e =
 right : (l : LayoutParts) (m : Memory)
     → state_code l m
     ≡ lists_code 0 m.free.areas.lists
-    ++ (flat_map (kinds_code m.free.areas) (range_with_len 0 ((pageblock_count l + 3) / 4))
+    ++ (flat_map (kinds_code m.free.areas.kinds) (range_with_len 0 ((pageblock_count l + 3) / 4))
     ++ (lists_code 0 m.free.cached ++ (flat_map (owner_code l m.pages) (range_with_len 0 l.owners)
     ++ (kernel_code 0 m.kernel ++ (flat_map row_code m.blocks.rows ++ auto_number m.blocks.auto ∷ [])))))
 unfolding state_code
@@ -267,7 +269,8 @@ pub states-apart : (l : LayoutParts) (a b : Memory) → IsShaped l a → IsShape
 states-apart l a b p q e =
     let lists = lists-apart 0 a.free.areas.lists b.free.areas.lists _ _
     (p.lists ∙ sym q.lists) (sym (right l a) ∙ (e ∙ right l b)) in
-    let kinds = kinds-apart a.free.areas b.free.areas (pageblock_count l) _ _ p.kinds q.kinds lists.1 in
+    let kinds =
+    kinds-apart a.free.areas.kinds b.free.areas.kinds (pageblock_count l) _ _ p.kinds q.kinds lists.1 in
     let cached = lists-apart 0 _ _ _ _ (p.cached ∙ sym q.cached) kinds.1 in
     let pages = pages-apart l a b _ _ p q cached.1 in
     let kernel = kernel-apart 0 a.kernel b.kernel _ _ (p.kernel ∙ sym q.kernel) pages.1 in
@@ -275,10 +278,11 @@ states-apart l a b p q e =
     let auto = auto-same a.blocks.auto b.blocks.auto (heads rows.1).0 in
     grind (arith, lists.0, kinds.0, cached.0, pages.0.0, pages.0.1, kernel.0, rows.0, auto)
 
--- the parts, each written behind the ones before it
+-- the parts, each written after the ones before it
 pub written : (l : LayoutParts) (m : Memory) (start areas kinds cached pages kernel rows all : List ℕ)
     (auto : ℕ) → areas ≡ start ++ lists_code 0 m.free.areas.lists
-    → kinds ≡ areas ++ flat_map (kinds_code m.free.areas) (range_with_len 0 ((pageblock_count l + 3) / 4))
+    → kinds ≡ areas
+    ++ flat_map (kinds_code m.free.areas.kinds) (range_with_len 0 ((pageblock_count l + 3) / 4))
     → cached ≡ kinds ++ lists_code 0 m.free.cached
     → pages ≡ cached ++ flat_map (owner_code l m.pages) (range_with_len 0 l.owners)
     → kernel ≡ pages ++ kernel_code 0 m.kernel → rows ≡ kernel ++ flat_map row_code m.blocks.rows

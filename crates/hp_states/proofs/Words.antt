@@ -63,7 +63,7 @@ mapped_code l (Some g) (Some us) f ws is e s =
     (sym (cond-true (length us == l.words) (number_code (g + 2) ++ flat_map number_code us)
     (odd_page_code (Some g) (Some us)) (eq-eqb (length us) l.words is)))
 
--- behind other codes
+-- after other codes
 pub mapped_behind : (l : LayoutParts) (frame : Option ℕ) (words : Option (List ℕ)) (f n : ℕ)
     (ws old between : List ℕ) → IsPage l frame words → frame ≡ Some f → words ≡ Some ws → n ≡ f
     → between ≡ old ++ number_code (n + 2)

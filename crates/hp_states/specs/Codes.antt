@@ -11,7 +11,7 @@ use Rattle.hp_states.specs.Parts.{auto_number, counted_code, kernel_code, kinds_
 unfoldable pub state_code : LayoutParts → Memory → List ℕ
 state_code l m =
     lists_code 0 m.free.areas.lists
-    ++ flat_map (kinds_code m.free.areas) (range_with_len 0 ((pageblock_count l + 3) / 4))
+    ++ flat_map (kinds_code m.free.areas.kinds) (range_with_len 0 ((pageblock_count l + 3) / 4))
     ++ lists_code 0 m.free.cached ++ flat_map (owner_code l m.pages) (range_with_len 0 l.owners)
     ++ kernel_code 0 m.kernel ++ flat_map row_code m.blocks.rows ++ auto_number m.blocks.auto ∷ []
 

@@ -1,12 +1,13 @@
 -- The parts of a state as bytes. A count is written only if the layout does not give it.
-use Rattle.std.specs.Prelude.{ℕ, ◌≡◌, ◌+◌, ◌*◌, ◌/◌, ◌%◌, ◌==◌, Bool, true, false, List, [], ◌∷◌, ◌++◌, Option, None, Some, length, nat_lt, if◌then◌else◌}
+use Rattle.std.specs.Prelude.{ℕ, ◌≡◌, ◌+◌, ◌*◌, ◌/◌, ◌%◌, ◌==◌, Bool, true, false, List, [], ◌∷◌, ◌++◌, Option, None, Some, length, nat_lt, slice_index_or, if◌then◌else◌}
 use Rattle.std.specs.List.{flat_map, range_with_len}
 use Rattle.hp_units.specs.LayoutParts.{LayoutParts}
-use Rattle.hp_units.specs.Memory.{FreeAreas, Pages, kind_of}
+use Rattle.hp_units.specs.Memory.{Pages, plain_kind}
 use Rattle.hp_units.specs.Pages.{frame_at, words_at}
 use Rattle.hp_units.specs.declared.rows.Auto.{Auto}
 use Rattle.hp_units.specs.declared.rows.Auto.TheVariants.{Offline as OfflineAuto, Online as OnlineAuto, OnlineKernel as KernelAuto, OnlineMovable as MovableAuto}
 use Rattle.hp_units.specs.declared.rows.Claim.{Claim}
+use Rattle.hp_units.specs.declared.rows.Kind.{Kind}
 use Rattle.hp_units.specs.declared.rows.Mobility.{Mobility}
 use Rattle.hp_units.specs.declared.rows.Mobility.TheVariants.{Unmovable, Movable}
 use Rattle.hp_units.specs.declared.rows.Row.{Row}
@@ -83,18 +84,20 @@ kind_number Unmovable true = 2
 kind_number Movable true = 3
 
 -- the number of a pageblock's kind; past the last pageblock, that of a plain one
-abbrev pub kind_at : FreeAreas → (pageblock : ℕ) → ℕ
-kind_at a pageblock = kind_number (kind_of a pageblock).mobility (kind_of a pageblock).isolated
+abbrev pub kind_at : (kinds : List Kind) → (pageblock : ℕ) → ℕ
+kind_at kinds pageblock =
+    kind_number (slice_index_or kinds pageblock plain_kind).mobility
+    (slice_index_or kinds pageblock plain_kind).isolated
 
 -- the kinds of four pageblocks, from pageblock `4 * four` on, in one byte, the first in the lowest bits
-abbrev pub kinds_byte : FreeAreas → (four : ℕ) → ℕ
-kinds_byte a four =
-    kind_at a (4 * four) + 4 * kind_at a (4 * four + 1) + 16 * kind_at a (4 * four + 2)
-    + 64 * kind_at a (4 * four + 3)
+abbrev pub kinds_byte : (kinds : List Kind) → (four : ℕ) → ℕ
+kinds_byte kinds four =
+    kind_at kinds (4 * four) + 4 * kind_at kinds (4 * four + 1) + 16 * kind_at kinds (4 * four + 2)
+    + 64 * kind_at kinds (4 * four + 3)
 
 -- the byte of the kinds of four pageblocks
-abbrev pub kinds_code : FreeAreas → (four : ℕ) → List ℕ
-kinds_code a four = kinds_byte a four ∷ []
+abbrev pub kinds_code : (kinds : List Kind) → (four : ℕ) → List ℕ
+kinds_code kinds four = kinds_byte kinds four ∷ []
 
 -- the number for a claim's wish
 abbrev pub wish_number : Wish → ℕ

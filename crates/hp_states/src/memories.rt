@@ -1,8 +1,7 @@
 //! The encoding of a memory's state, part by part.
 ghost use Rattle.std.specs.Prelude.{◌≡◌, ◌+◌, ◌*◌, ◌/◌, ◌^◌, ◌<◌, ◌≤◌, ◌∷◌, ◌++◌, IfOk, OnOk, Some, length};
 ghost use Rattle.std.specs.List.{flat_map, range_with_len};
-ghost use Rattle.hp_units.specs.Arithmetic.{pageblock_count};
-ghost use Rattle.hp_units.specs.Memory.{cached_list, free_list};
+ghost use Rattle.hp_buddy.specs.LinkedLists.{list_at};
 ghost use Rattle.hp_units.specs.Placement.{IsShaped};
 ghost use Rattle.hp_states.specs.Codes.{state_code};
 ghost use Rattle.hp_laws.specs.Numberings.{number_of};
@@ -10,13 +9,11 @@ ghost use Rattle.hp_laws.specs.Renumbered.{renumbered, renumbered_claim, renumbe
 ghost use Rattle.hp_states.specs.Parts.{auto_number, claim_code, claim_number, gapped_code, IsListPut, kernel_code, kind_at, kind_number, kinds_byte, kinds_code, lists_code, owner_code, page_code_at, row_code, wish_number};
 
 use crate::code::Code;
+use hp_buddy::{Links, ListNumber};
 use hp_laws::place_of;
 use hp_memory::Memory;
 use hp_pages::KernelBlocks;
-use hp_units::{
-    Auto, Block, Claim, Class, Cpu, Kind, Mobility, Order, Owner, Page, Pageblock, Pool, Row,
-    Serial, Wish,
-};
+use hp_units::{Auto, Block, Claim, Kind, Mobility, Owner, Page, Row, Serial, Wish};
 use std::alloc::AllocError;
 
 /// Appends the code of the memory's state, in which operations have the numbers of `number_of`.
@@ -30,9 +27,9 @@ pub(crate) fn put_memory(
         (renumbered (number_of fixed latest.now) memory.now.state)) }
 {
     memory.is_placed();
-    put_areas(code, memory)?;
-    put_kinds(code, memory)?;
-    put_cached(code, memory)?;
+    put_lists(code, memory.buddy().links())?;
+    put_kinds(code, memory.buddy().kinds())?;
+    put_lists(code, memory.cpus().links())?;
     put_pages(code, memory)?;
     put_kernel(code, memory.kernel(), memory.layout().frames())?;
     put_rows(code, memory, fixed, latest)?;
@@ -40,95 +37,75 @@ pub(crate) fn put_memory(
     Ok(())
 }
 
-/// Appends all free lists, and leaves out the empty ones.
-fn put_areas(code: &mut Code, memory: &Memory) -> Result<(), AllocError>
-    requires { IsShaped memory.now.layout memory.now.state }
-    ensures { OnOk result (code.new ≡ code.old ++ lists_code 0 memory.now.state.free.areas.lists) }
+/// Appends all lists, and leaves out the empty ones.
+fn put_lists(code: &mut Code, links: &Links) -> Result<(), AllocError>
+    requires { length links.now.lists ≤ 2 ^ 20 }
+    ensures { OnOk result (code.new ≡ code.old ++ lists_code 0 links.now.lists) }
 {
     let mut gap = 0u64;
-    for number in 0..5 * (memory.layout().order() + 1) {
-        let class = Class::numbered(number % 5);
-        gap = put_area(code, memory, class, Order(number / 5), gap)?;
+    for number in 0..links.count() {
+        gap = put_list(code, links, ListNumber(number), gap)?;
     }
     code.number(16 * gap)
 }
 
-/// Appends the free list of one class and order: its length, then its frames from the front.
-/// Appends nothing if it is empty. Returns how many lists are left out since the last one that is
-/// not empty; `gap` is how many were before.
-fn put_area(
-    code: &mut Code,
-    memory: &Memory,
-    class: Class,
-    order: Order,
-    gap: u64,
-) -> Result<u64, AllocError>
-    requires order { order ≤ memory.now.layout.order }
+/// Appends one list: its length, then its frames from the front. Appends nothing if it is empty.
+/// Returns how many lists are left out since the last one that is not empty; `gap` is how many were
+/// before.
+#[inline(always)]
+fn put_list(code: &mut Code, links: &Links, list: ListNumber, gap: u64) -> Result<u64, AllocError>
+    requires list { list < length links.now.lists }
     requires gap { gap ≤ 2 ^ 20 }
     ensures gap { IfOk result (λ next. next ≤ gap + 1) }
-    ensures code { IfOk result (λ next. IsListPut code.old code.new gap next
-        (free_list memory.now.state.free.areas class order)) }
+    ensures code { IfOk result (λ next. IsListPut code.old code.new gap next (list_at links.now list)) }
 {
-    memory.is_placed();
-    let areas = memory.buddy();
-    let count = areas.len(class, order);
+    links.are_apart();
+    let count = links.len(list);
     if count == 0 {
         return Ok(gap + 1);
     }
     put_gapped(code, gap, count)?;
-    let mut ahead = areas.front(class, order);
+    let mut ahead = links.front(list);
     for _number in 0..count {
         let frame = ahead.unwrap();
         code.number(u64::from(frame.0))?;
-        ahead = areas.next(frame);
+        ahead = links.after(frame);
     }
     Ok(0)
 }
 
 /// Appends the kinds of all pageblocks, four to a byte.
-fn put_kinds(code: &mut Code, memory: &Memory) -> Result<(), AllocError>
-    requires { IsShaped memory.now.layout memory.now.state }
-    ensures { OnOk result (code.new ≡ code.old ++ flat_map (kinds_code memory.now.state.free.areas)
-        (range_with_len 0 ((pageblock_count memory.now.layout + 3) / 4))) }
+fn put_kinds(code: &mut Code, kinds: &[Kind]) -> Result<(), AllocError>
+    requires { length kinds.now < 2 ^ 32 }
+    ensures { OnOk result (code.new ≡ code.old
+        ++ flat_map (kinds_code kinds.now) (range_with_len 0 ((length kinds.now + 3) / 4))) }
 {
-    let count = pageblocks(memory);
-    for four in 0..(count + 3) / 4 {
-        code.byte(kinds_byte(memory, four))?;
+    for four in 0..(kinds.len() + 3) / 4 {
+        code.byte(kinds_byte(kinds, four))?;
     }
     Ok(())
 }
 
-/// Returns the number of pageblocks.
-fn pageblocks(memory: &Memory) -> u32
-    ensures count { result ≡ pageblock_count memory.now.layout }
-    ensures small { result ≤ 2 ^ 20 }
-{
-    memory.layout().blocks() * memory.layout().pageblocks()
-}
-
 /// Returns the kinds of four pageblocks in one byte.
-fn kinds_byte(memory: &Memory, four: u32) -> u8
-    requires shaped { IsShaped memory.now.layout memory.now.state }
-    requires small { four < 2 ^ 20 }
-    ensures { result ≡ kinds_byte memory.now.state.free.areas four }
+fn kinds_byte(kinds: &[Kind], four: usize) -> u8
+    requires { four < 2 ^ 32 }
+    ensures { result ≡ kinds_byte kinds.now four }
 {
     let first = 4 * four;
-    kind_at(memory, first)
-        + 4 * kind_at(memory, first + 1)
-        + 16 * kind_at(memory, first + 2)
-        + 64 * kind_at(memory, first + 3)
+    kind_at(kinds, first)
+        + 4 * kind_at(kinds, first + 1)
+        + 16 * kind_at(kinds, first + 2)
+        + 64 * kind_at(kinds, first + 3)
 }
 
 /// Returns the number for a pageblock's kind; past the last pageblock, that of a plain one.
-fn kind_at(memory: &Memory, pageblock: u32) -> u8
-    requires { IsShaped memory.now.layout memory.now.state }
-    ensures is { result ≡ kind_at memory.now.state.free.areas pageblock }
+fn kind_at(kinds: &[Kind], pageblock: usize) -> u8
+    ensures is { result ≡ kind_at kinds.now pageblock }
     ensures small { result < 4 }
 {
-    if pageblock < pageblocks(memory) {
-        kind_number(memory.buddy().kind(Pageblock(pageblock)))
-    } else {
-        kind_number(Kind::plain())
+    match kinds.get(pageblock) {
+        Some(kind) => kind_number(*kind),
+        None => kind_number(Kind::plain()),
     }
 }
 
@@ -143,52 +120,6 @@ fn kind_number(kind: Kind) -> u8
         (Mobility::Unmovable, true) => 2,
         (Mobility::Movable, true) => 3,
     }
-}
-
-/// Appends the lists of all processors, and leaves out the empty ones.
-fn put_cached(code: &mut Code, memory: &Memory) -> Result<(), AllocError>
-    requires { IsShaped memory.now.layout memory.now.state }
-    ensures { OnOk result (code.new ≡ code.old ++ lists_code 0 memory.now.state.free.cached) }
-{
-    let mut gap = 0u64;
-    for number in 0..memory.layout().cpus() {
-        gap = put_list(code, memory, Cpu(number), Pool::Nu, gap)?;
-        gap = put_list(code, memory, Cpu(number), Pool::Nm, gap)?;
-        gap = put_list(code, memory, Cpu(number), Pool::Mm, gap)?;
-    }
-    code.number(16 * gap)
-}
-
-/// Appends one processor's list of one pool: its length, then its frames from the front. Appends
-/// nothing if it is empty. `gap` and the result are those of [`put_area`].
-#[inline(always)]
-fn put_list(
-    code: &mut Code,
-    memory: &Memory,
-    cpu: Cpu,
-    pool: Pool,
-    gap: u64,
-) -> Result<u64, AllocError>
-    requires cpu { cpu < memory.now.layout.cpus }
-    requires gap { gap ≤ 2 ^ 20 }
-    ensures gap { IfOk result (λ next. next ≤ gap + 1) }
-    ensures code { IfOk result (λ next. IsListPut code.old code.new gap next
-        (cached_list memory.now.state.free cpu pool)) }
-{
-    memory.is_placed();
-    let lists = memory.cpus();
-    let count = lists.len(cpu, pool);
-    if count == 0 {
-        return Ok(gap + 1);
-    }
-    put_gapped(code, gap, count)?;
-    let mut ahead = lists.front(cpu, pool);
-    for _number in 0..count {
-        let frame = ahead.unwrap();
-        code.number(u64::from(frame.0))?;
-        ahead = lists.next(frame);
-    }
-    Ok(0)
 }
 
 /// Appends all pages of all owners.
@@ -227,9 +158,8 @@ fn put_page(code: &mut Code, memory: &Memory, owner: Owner, page: Page) -> Resul
     match pages.frame_at(owner, page) {
         None => code.number(0),
         Some(frame) => {
-            let words = pages.words(owner, page).unwrap();
             code.number(u64::from(frame.0) + 2)?;
-            code.numbers(words)
+            code.numbers(pages.words_in(frame))
         }
     }
 }

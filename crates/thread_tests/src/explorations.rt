@@ -2,11 +2,9 @@
 //! compares explorations with every order of random scripts.
 ghost use Rattle.std.specs.Prelude.{◌≡◌, IfOk, length};
 
-use hp_explore::{
-    ExploreFault, Silent, calls_for, explore, explore_part, kept_counts_are_added, play,
-};
+use hp_explore::{ExploreFault, Silent, explore, explore_part, kept_counts_are_added, play};
 use hp_machine::Machine;
-use hp_parts::{explore_with_jobs, sum};
+use hp_parts::{calls_for, explore_with_jobs, sum};
 use hp_schedules::{
     CallScript, Ending, Replies, Shard, Step, alike_places_go_on_alike, counts_are_unique,
     interleavings_are_counted, schedules_are_interleavings, total_of,

@@ -1,6 +1,5 @@
-use Rattle.std.proofs.Common.{◌≡◌, ◌+◌, ◌/◌, ◌++◌, take}
+use Rattle.std.proofs.Common.{◌≡◌, ◌+◌, ◌/◌, ◌++◌, length, take}
 use Rattle.std.specs.List.{flat_map, range_with_len}
-use Rattle.hp_units.specs.Arithmetic.{pageblock_count}
 use Rattle.hp_states.specs.Parts.{kinds_code}
 use Rattle.hp_states.proofs.memories.put_kinds.Given as goal
 
@@ -8,5 +7,4 @@ abbrev pub invariant-loop-four : goal.invariant-loop-four
 invariant-loop-four l =
     l.code
     ≡ (l.initial.code
-    ++ flat_map (kinds_code l.memory.state.free.areas)
-    (take l.four (range_with_len 0 ((pageblock_count l.memory.layout + 3) / 4))))
+    ++ flat_map (kinds_code l.kinds) (take l.four (range_with_len 0 ((length l.kinds + 3) / 4))))

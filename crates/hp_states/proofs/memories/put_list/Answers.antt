@@ -1,25 +1,22 @@
-use Rattle.std.proofs.Common.{◌*◌, ◌+◌, sym, ◌∙◌, arith}
-use Rattle.hp_units.specs.Memory.{pool_index}
-use Rattle.hp_states.proofs.Walked.{cached_next, frame_more}
+use Rattle.std.proofs.Common.{sym, ◌∙◌, arith}
+use Rattle.hp_states.proofs.Walked.{frame_more, has_next}
 use Rattle.hp_states.proofs.memories.put_list.Goals as goal
 
-pub next-ahead-requires : goal.next-ahead-requires
-next-ahead-requires c =
-    let here = sym c.loop-number.invariant.ahead ∙ c.unwrap-frame.ensures in
-    rw c.cpus-lists.ensures
-    (cached_next _ _ (3 * c.args.cpu + pool_index c.args.pool) _ _ c.is_placed.ensures.layout
-    c.is_placed.ensures.placed here).within
+pub after-ahead-requires : goal.after-ahead-requires
+after-ahead-requires c = (
+  c.args.list,
+  (has_next c.args.links.now c.args.list _ _ c.are_apart.ensures
+      (sym c.loop-number.invariant.ahead ∙ c.unwrap-frame.ensures)).on,
+)
 
 pub loop-number-preserved : goal.loop-number-preserved
 loop-number-preserved c =
     let here = sym c.loop-number.invariant.ahead ∙ c.unwrap-frame.ensures in
+    let next = has_next c.args.links.now c.args.list _ _ c.are_apart.ensures here in
     record {
       code =
           frame_more _ c.loop-number.code _ _ _ _ c.from.result here
           (omega (arith, c.from.ensures, c.frame.view_is)) c.loop-number.invariant.code
           c.in_ok-number.ensures;
-      ahead =
-          rw (c.next-ahead.ensures, c.cpus-lists.ensures)
-          (cached_next _ _ (3 * c.args.cpu + pool_index c.args.pool) _ _ c.is_placed.ensures.layout
-          c.is_placed.ensures.placed here).next;
+      ahead = c.after-ahead.ensures c.args.list next.on ∙ next.next;
     }

@@ -1,7 +1,7 @@
 -- Fewer calls have fewer schedules than what is wanted.
 use Rattle.std.proofs.Common.{◌≡◌, ℕ, ◌<◌, ◌≤◌, ◌*◌, ◌^◌, ap, ◌∙◌, arith}
 use Rattle.std.proofs.Math.Nat.{pow-le-pow_right}
-use Rattle.hp_explore.proofs.calls.calls_for.Goals as goal
+use Rattle.hp_parts.proofs.calls.calls_for.Goals as goal
 
 pub returns-clause-fewest : goal.returns-clause-fewest
 returns-clause-fewest c =
